@@ -1,0 +1,2 @@
+-- The definitions of crate `header`.
+pub mod Header

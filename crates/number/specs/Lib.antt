@@ -1,0 +1,3 @@
+-- The definitions of crate `number`.
+pub mod Inner
+pub mod Seven

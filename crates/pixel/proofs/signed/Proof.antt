@@ -1,0 +1,36 @@
+use Prim.Native.Nat.{_-_}
+use mathlib.Core.Path.{_≡_, ap}
+use native.Mathlib.Omega.{arith}
+use lib.IntN.{negsuc}
+use borrow.Author.Needs.{needs}
+use borrow.Author.Tests.{lt-ltb, le-ltb}
+use Rattle.pixel.proofs.signed.Statement.{statement}
+use Rattle.pixel.proofs.signed.Tie as tie
+use Rattle.pixel.proofs.signed.Reads as reads
+use Rattle.pixel.proofs.signed.Lts as lts
+
+-- src/lib.rt:105:9
+cast-result : tie.Need-cast-result
+cast-result c = search needs
+
+-- src/lib.rt:107:18
+sub-y : tie.Need-sub-y
+sub-y c = search needs
+
+-- src/lib.rt:107:17
+cast-y : tie.Need-cast-y
+cast-y c = search needs
+
+-- src/lib.rt:101:1
+returns : tie.Need-returns
+returns c = rw (lt-ltb _ _ (c .if1 .taken))
+
+-- src/lib.rt:101:1
+returns-2 : tie.Need-returns-2
+returns-2 c =
+    let x = c .before .args .x in
+    let back : 255 - (255 - x) ≡ x = omega arith in
+    rw (back, le-ltb _ _ (c .if1 .left)) (ap negsuc (omega arith))
+
+pub signed-spec : {M : Type 1} → statement M
+signed-spec = tie.close (tie.spec cast-result sub-y cast-y returns returns-2)

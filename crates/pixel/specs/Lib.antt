@@ -1,0 +1,4 @@
+-- The definitions of crate `pixel`: refusals, channel counts and colour spaces, pixels.
+pub mod Colour
+pub mod Refusal
+pub mod Types

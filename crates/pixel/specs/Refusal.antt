@@ -1,0 +1,68 @@
+-- Document 01's table of refusals: each one's number and figures, which determine it.
+use mathlib.Core.Path.{_≡_, refl, sym, _∙_, ap₂}
+use mathlib.Core.List.{List, [], _∷_}
+use mathlib.Core.Bool.{cond}
+use Prim.Native.Nat.{ℕ}
+use lib.Dec.{eqb}
+use lib.ListN.{getD}
+use Rattle.pixel.specs.declared.error.Error.{Error}
+use Rattle.pixel.specs.declared.error.Error.the-variants.{UnexpectedBufferEnd, InvalidChannels, InvalidColorSpace, InvalidMagic, InvalidImageDimensions, InvalidImageLength, OutputBufferTooSmall, InvalidPadding, BadState, RunPastImage, BytesAfterMarker}
+
+-- the number in the table's first column
+abbrev pub numberOf : Error → ℕ
+numberOf UnexpectedBufferEnd = 1
+numberOf (InvalidChannels channels) = 2
+numberOf (InvalidColorSpace byte) = 3
+numberOf (InvalidMagic magic) = 4
+numberOf (InvalidImageDimensions width height) = 5
+numberOf (InvalidImageLength size width height) = 6
+numberOf (OutputBufferTooSmall size required) = 7
+numberOf InvalidPadding = 8
+numberOf BadState = 9
+numberOf RunPastImage = 10
+numberOf BytesAfterMarker = 11
+
+-- the figures in the table's order, zeros after them
+abbrev pub figuresOf : Error → List ℕ
+figuresOf UnexpectedBufferEnd = 0 ∷ 0 ∷ 0 ∷ 0 ∷ []
+figuresOf (InvalidChannels channels) = channels ∷ 0 ∷ 0 ∷ 0 ∷ []
+figuresOf (InvalidColorSpace byte) = byte ∷ 0 ∷ 0 ∷ 0 ∷ []
+figuresOf (InvalidMagic magic) = magic ∷ 0 ∷ 0 ∷ 0 ∷ []
+figuresOf (InvalidImageDimensions width height) = width ∷ height ∷ 0 ∷ 0 ∷ []
+figuresOf (InvalidImageLength size width height) = size ∷ width ∷ height ∷ 0 ∷ []
+figuresOf (OutputBufferTooSmall size required) = size ∷ required ∷ 0 ∷ 0 ∷ []
+figuresOf InvalidPadding = 0 ∷ 0 ∷ 0 ∷ 0 ∷ []
+figuresOf BadState = 0 ∷ 0 ∷ 0 ∷ 0 ∷ []
+figuresOf RunPastImage = 0 ∷ 0 ∷ 0 ∷ 0 ∷ []
+figuresOf BytesAfterMarker = 0 ∷ 0 ∷ 0 ∷ 0 ∷ []
+
+-- the refusal that a number and figures name
+abbrev refusalOf : ℕ → List ℕ → Error
+refusalOf n f =
+    cond (eqb n 2) (InvalidChannels (getD f 0 0))
+    (cond (eqb n 3) (InvalidColorSpace (getD f 0 0))
+    (cond (eqb n 4) (InvalidMagic (getD f 0 0))
+    (cond (eqb n 5) (InvalidImageDimensions (getD f 0 0) (getD f 1 0))
+    (cond (eqb n 6) (InvalidImageLength (getD f 0 0) (getD f 1 0) (getD f 2 0))
+    (cond (eqb n 7) (OutputBufferTooSmall (getD f 0 0) (getD f 1 0))
+    (cond (eqb n 8) InvalidPadding
+    (cond (eqb n 9) BadState
+    (cond (eqb n 10) RunPastImage
+    (cond (eqb n 11) BytesAfterMarker UnexpectedBufferEnd)))))))))
+
+named : (e : Error) → refusalOf (numberOf e) (figuresOf e) ≡ e
+named UnexpectedBufferEnd = refl
+named (InvalidChannels channels) = refl
+named (InvalidColorSpace byte) = refl
+named (InvalidMagic magic) = refl
+named (InvalidImageDimensions width height) = refl
+named (InvalidImageLength size width height) = refl
+named (OutputBufferTooSmall size required) = refl
+named InvalidPadding = refl
+named BadState = refl
+named RunPastImage = refl
+named BytesAfterMarker = refl
+
+-- two refusals with the same number and figures are the same
+pub refusal-determined : (a b : Error) → numberOf a ≡ numberOf b → figuresOf a ≡ figuresOf b → a ≡ b
+refusal-determined a b n f = sym (named a) ∙ ap₂ refusalOf n f ∙ named b

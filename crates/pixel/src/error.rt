@@ -1,0 +1,98 @@
+// The refusals of document 01, each with the number and the figures that its table gives.
+ghost use mathlib.Core.Path.{_≡_};
+ghost use Rattle.pixel.specs.Refusal.{numberOf, figuresOf};
+
+pub enum Error {
+    // Input ended before what was to be read.
+    UnexpectedBufferEnd,
+    // Neither 3 nor 4 channels; 255 stands for any larger number.
+    InvalidChannels {
+        channels: u8,
+    },
+    // Neither 0 nor 1; 255 stands for any larger number.
+    InvalidColorSpace {
+        colorspace: u8,
+    },
+    // The first four bytes are not "qoif".
+    InvalidMagic {
+        magic: u32,
+    },
+    // No pixels, or more than 400,000,000.
+    InvalidImageDimensions {
+        width: u32,
+        height: u32,
+    },
+    // The pixel bytes are no multiple of the pixels.
+    InvalidImageLength {
+        size: usize,
+        width: u32,
+        height: u32,
+    },
+    // The lent output is shorter than required.
+    OutputBufferTooSmall {
+        size: usize,
+        required: usize,
+    },
+    // What follows the last pixel is not the marker.
+    InvalidPadding,
+    // A state that is not well formed, or a record that no state writes.
+    BadState,
+    // A run is longer than the pixels left (strict).
+    RunPastImage,
+    // Something follows the marker (strict).
+    BytesAfterMarker,
+}
+
+impl Error {
+    // The number of document 01's table.
+    pub fn number(self) -> u64
+        ensures { λ r. ⌜ r ≡ numberOf self ⌝ }
+    {
+        match self {
+            Error::UnexpectedBufferEnd => 1,
+            Error::InvalidChannels { channels: _ } => 2,
+            Error::InvalidColorSpace { colorspace: _ } => 3,
+            Error::InvalidMagic { magic: _ } => 4,
+            Error::InvalidImageDimensions {
+                width: _,
+                height: _,
+            } => 5,
+            Error::InvalidImageLength {
+                size: _,
+                width: _,
+                height: _,
+            } => 6,
+            Error::OutputBufferTooSmall {
+                size: _,
+                required: _,
+            } => 7,
+            Error::InvalidPadding => 8,
+            Error::BadState => 9,
+            Error::RunPastImage => 10,
+            Error::BytesAfterMarker => 11,
+        }
+    }
+
+    // The figures in the table's order, zeros after them.
+    pub fn figures(self) -> [u64; 4]
+        ensures { λ r. ⌜ r ≡ figuresOf self ⌝ }
+    {
+        match self {
+            Error::UnexpectedBufferEnd => [0, 0, 0, 0],
+            Error::InvalidChannels { channels } => [channels as u64, 0, 0, 0],
+            Error::InvalidColorSpace { colorspace } => [colorspace as u64, 0, 0, 0],
+            Error::InvalidMagic { magic } => [magic as u64, 0, 0, 0],
+            Error::InvalidImageDimensions { width, height } => [width as u64, height as u64, 0, 0],
+            Error::InvalidImageLength {
+                size,
+                width,
+                height,
+            } => [size as u64, width as u64, height as u64, 0],
+            Error::OutputBufferTooSmall { size, required } => [size as u64, required as u64, 0, 0],
+            Error::InvalidPadding => [0, 0, 0, 0],
+            Error::BadState => [0, 0, 0, 0],
+            Error::RunPastImage => [0, 0, 0, 0],
+            Error::BytesAfterMarker => [0, 0, 0, 0],
+        }
+    }
+}
