@@ -1,0 +1,181 @@
+-- Document 01's pictures and messages on both sides, and its ways to get it wrong: one list, one test, one statement.
+use mathlib.Core.Bool.{Bool, true, false, _&&_}
+use mathlib.Core.List.{List, [], _∷_, _++_}
+use Prim.Native.Nat.{ℕ, _+_, _*_}
+use lib.Dec.{T, eqb}
+use lib.ListN.{length, take, drop, replicate}
+use Rattle.pixel.specs.declared.types.Channels.{Channels}
+use Rattle.pixel.specs.declared.types.Channels.the-variants.{Rgb, Rgba}
+use Rattle.pixel.specs.declared.types.ColorSpace.the-variants.{Srgb}
+use Rattle.pixel.specs.Colour.{slotOf}
+use Rattle.pixel.specs.Types.{channelsNumber}
+use Rattle.number.specs.Seven.{sevenBitsOf, sevenBits, groupBelow, readMore, readNumber}
+use Rattle.header.specs.declared.Header.{Header}
+use Rattle.header.specs.Header.{headerBytes, headerFrom, afterColorSpace, afterChannels, headerOf, pixelCount}
+use Rattle.rules.specs.Chunk.{chunkFrom, chunkAt, colourOf, timesOf, sizeOf}
+use Rattle.rules.specs.Reading.{Reading, Answer, marker, sameBytes, repeated, closing, startPlace, pixelsBrought, pixelAfter, placeAfter, bytesOf, moveBy, move, reading, readingInto, withWanted, withHeader, wholeReading}
+use Rattle.rules.specs.Decode.{decoderStores, decoderKeeps, decoderReadsRgba, decoding, restOf}
+use Rattle.rules.specs.Document.{documentReading}
+use Rattle.rules.specs.Encode.{fitsDiff, fitsLuma, diffBytes, lumaBytes, colourBytes, startPen, runEnded, slotHolds, differingBytes, penAfter, chunksFrom, pixelFrom, pixelsFrom, streamOf, encodingInto, withSpace, withCount, withDimensions, encoding}
+use Rattle.rules.specs.Step.{State, wellFormed, Started, started, notStarted, startWanted, startHeader, starting, stepBy, step, steppedOver, Ran, going, ended, running}
+use Rattle.rules.specs.Record.{pixelsBytes, recordBytes, recording, readPixels, withNumber, readEnd, readSlots, readPositions, readWanted, readRecord}
+use Rattle.rules.specs.Strict.{strictClosed, strictClosing, strictCounted, strictBy, strictMove, strictFrom, strictHeader, strict}
+use Rattle.rules.specs.Figures.{headerFigures, answerFigures, encodeFigures, strictFigures, numberFigures, startFigures}
+
+pub data Case : Type 0 where
+  -- width, height, channels and bytes of a picture: the chunks of its stream
+  encodes : ℕ → ℕ → Channels → List ℕ → List ℕ → Case
+  -- width, height, colour space and bytes of a picture, room: the answer's number and figures
+  encodesInto : ℕ → ℕ → ℕ → List ℕ → ℕ → List ℕ → Case
+  -- width, height and channels, wanted, what follows the header: the answer's number and figures, the bytes written
+  decodes : ℕ → ℕ → Channels → ℕ → List ℕ → List ℕ → List ℕ → Case
+  -- width, height and channels, wanted, chunks: the decoder's bytes, the document's bytes
+  reads : ℕ → ℕ → Channels → ℕ → List ℕ → List ℕ → List ℕ → Case
+  -- width, height and channels, what follows the header: the strict answer's number and figures
+  checks : ℕ → ℕ → Channels → List ℕ → List ℕ → Case
+  -- a message: its header's number and figures
+  opens : List ℕ → List ℕ → Case
+  -- a number: its bytes in a record
+  counts : ℕ → List ℕ → Case
+  -- bytes: the number and figures of the number that they start with
+  countsBack : List ℕ → List ℕ → Case
+  -- width, height and channels, wanted, chunks, steps before a checkpoint, what the next worker finds from the checkpoint's pixel on: the output at the end
+  takesUp : ℕ → ℕ → Channels → ℕ → List ℕ → ℕ → ℕ → List ℕ → Case
+
+abbrev headerWith : ℕ → ℕ → Channels → Header
+headerWith width height channels = record { width = width; height = height; channels = channels; colorspace = Srgb }
+
+-- a message that ends with the marker
+abbrev message : ℕ → ℕ → Channels → List ℕ → List ℕ
+message width height channels chunks = headerBytes (headerWith width height channels) ++ (chunks ++ marker)
+
+-- what a worker leaves that ends
+afterRun : Ran → List ℕ
+afterRun (going s out) = []
+afterRun (ended answer s out) = out
+
+-- a second worker reads the first one's record and goes on; from the checkpoint's pixel on it finds another byte
+resumed : List ℕ → ℕ → List ℕ → ℕ → Started → List ℕ
+resumed m limit out found (notStarted e) = []
+resumed m limit out found (started s) =
+    let kept = s .place .pixel * s .wanted in
+    afterRun (running limit s m (take kept out ++ replicate (length (drop kept out)) found))
+
+checkpointed : List ℕ → ℕ → ℕ → Ran → List ℕ
+checkpointed m limit found (going s out) = resumed m limit out found (readRecord (recordBytes s))
+checkpointed m limit found (ended answer s out) = []
+
+begun : List ℕ → ℕ → ℕ → ℕ → ℕ → Started → List ℕ
+begun m steps limit size found (notStarted e) = []
+begun m steps limit size found (started s) = checkpointed m limit found (running steps s m (replicate size 0))
+
+-- whether a case holds of the definitions
+pub holds : Case → Bool
+unfolding afterRun resumed checkpointed begun slotOf sevenBitsOf sevenBits groupBelow readMore readNumber headerBytes headerFrom afterColorSpace afterChannels headerOf chunkFrom chunkAt colourOf timesOf sizeOf sameBytes repeated closing startPlace pixelsBrought pixelAfter placeAfter bytesOf moveBy move reading readingInto withWanted withHeader wholeReading decoderStores decoderKeeps decoderReadsRgba fitsDiff fitsLuma diffBytes lumaBytes colourBytes startPen runEnded slotHolds differingBytes penAfter chunksFrom pixelFrom pixelsFrom streamOf encodingInto withSpace withCount withDimensions encoding wellFormed startWanted startHeader starting stepBy step running pixelsBytes recordBytes readPixels withNumber readEnd readSlots readPositions readWanted readRecord strictClosed strictClosing strictCounted strictBy strictMove strictFrom strictHeader strict
+holds (encodes width height channels picture chunks) =
+    sameBytes (encoding picture width height 0 1000000 .bytes) (message width height channels chunks)
+holds (encodesInto width height colorspace picture room figures) =
+    sameBytes (encodeFigures (encoding picture width height colorspace room .answer)) figures
+holds (decodes width height channels wanted body figures bytes) =
+    let r = decoding (headerBytes (headerWith width height channels) ++ body) wanted (width * height * wanted) in
+    sameBytes (answerFigures (r .answer)) figures && sameBytes (r .bytes) bytes
+holds (reads width height channels wanted chunks bytes documentBytes) =
+    let m = message width height channels chunks in
+    let room = width * height * wanted in
+    sameBytes (answerFigures (decoding m wanted room .answer)) (0 ∷ room ∷ length m ∷ 0 ∷ 0 ∷ [])
+    && (sameBytes (decoding m wanted room .bytes) bytes && sameBytes (documentReading m wanted room .bytes) documentBytes)
+holds (checks width height channels body figures) =
+    sameBytes (strictFigures (strict (headerBytes (headerWith width height channels) ++ body))) figures
+holds (opens m figures) = sameBytes (headerFigures (headerOf m)) figures
+holds (counts n bytes) =
+    sameBytes (sevenBits n) bytes && sameBytes (numberFigures (readNumber bytes)) (0 ∷ n ∷ length bytes ∷ 0 ∷ 0 ∷ [])
+holds (countsBack bytes figures) = sameBytes (numberFigures (readNumber bytes)) figures
+holds (takesUp width height channels wanted chunks steps found out) =
+    let m = message width height channels chunks in
+    sameBytes (begun m steps (width * height + 1) (width * height * wanted) found (starting m wanted)) out
+
+-- the test holds of each case of a list
+pub allHold : List Case → Bool
+allHold [] = true
+allHold (c ∷ cs) = holds c && allHold cs
+
+-- rows marked P, in the table's order
+proved : List Case
+proved =
+    encodes 1 1 Rgb (0 ∷ 0 ∷ 0 ∷ []) (0xc0 ∷ [])
+    ∷ encodesInto 1 1 0 (0 ∷ 0 ∷ 0 ∷ []) 26 (0 ∷ 23 ∷ 0 ∷ 0 ∷ 0 ∷ [])
+    ∷ encodes 1 1 Rgba (0 ∷ 0 ∷ 0 ∷ 0 ∷ []) (0x00 ∷ [])
+    ∷ encodes 1 1 Rgb (1 ∷ 255 ∷ 0 ∷ []) (0x76 ∷ [])
+    ∷ encodes 1 1 Rgb (10 ∷ 12 ∷ 9 ∷ []) (0xac ∷ 0x65 ∷ [])
+    ∷ encodes 1 1 Rgb (100 ∷ 0 ∷ 0 ∷ []) (0xfe ∷ 0x64 ∷ 0x00 ∷ 0x00 ∷ [])
+    ∷ encodes 1 1 Rgba (0 ∷ 0 ∷ 0 ∷ 128 ∷ []) (0xff ∷ 0x00 ∷ 0x00 ∷ 0x00 ∷ 0x80 ∷ [])
+    ∷ encodes 63 1 Rgb (replicate 189 0) (0xfd ∷ 0xc0 ∷ [])
+    ∷ encodes 62 1 Rgb (replicate 186 0) (0xfd ∷ [])
+    ∷ encodes 5 1 Rgb (100 ∷ 0 ∷ 0 ∷ 0 ∷ 0 ∷ 0 ∷ 100 ∷ 0 ∷ 0 ∷ 100 ∷ 0 ∷ 0 ∷ 0 ∷ 0 ∷ 0 ∷ [])
+      (0xfe ∷ 0x64 ∷ 0x00 ∷ 0x00 ∷ 0xfe ∷ 0x00 ∷ 0x00 ∷ 0x00 ∷ 0x21 ∷ 0x21 ∷ 0x35 ∷ [])
+    ∷ reads 2 1 Rgba 4 (0xc0 ∷ 0x35 ∷ []) (0 ∷ 0 ∷ 0 ∷ 255 ∷ 0 ∷ 0 ∷ 0 ∷ 0 ∷ []) (0 ∷ 0 ∷ 0 ∷ 255 ∷ 0 ∷ 0 ∷ 0 ∷ 255 ∷ [])
+    ∷ reads 3 1 Rgba 3
+      (0xff ∷ 0x0a ∷ 0x00 ∷ 0x00 ∷ 0x80 ∷ 0xff ∷ 0x00 ∷ 0x00 ∷ 0x00 ∷ 0xff ∷ 0x1e ∷ [])
+      (10 ∷ 0 ∷ 0 ∷ 0 ∷ 0 ∷ 0 ∷ 0 ∷ 0 ∷ 0 ∷ [])
+      (10 ∷ 0 ∷ 0 ∷ 0 ∷ 0 ∷ 0 ∷ 10 ∷ 0 ∷ 0 ∷ [])
+    ∷ decodes 1 1 Rgb 4 (0x05 ∷ marker) (0 ∷ 4 ∷ 23 ∷ 0 ∷ 0 ∷ []) (0 ∷ 0 ∷ 0 ∷ 0 ∷ [])
+    ∷ counts 300 (0xac ∷ 0x02 ∷ [])
+    ∷ []
+
+-- the table's other rows
+compared : List Case
+compared =
+    decodes 1 1 Rgb 3 (0xff ∷ 0 ∷ 0 ∷ 0 ∷ 0 ∷ 0 ∷ 0 ∷ 0 ∷ []) (8 ∷ 0 ∷ 0 ∷ 0 ∷ 0 ∷ []) (0 ∷ 0 ∷ 0 ∷ [])
+    ∷ decodes 1 1 Rgb 3 (0xff ∷ 0 ∷ 0 ∷ 0 ∷ 0 ∷ 0 ∷ 0 ∷ []) (1 ∷ 0 ∷ 0 ∷ 0 ∷ 0 ∷ []) []
+    ∷ decodes 1 1 Rgb 3 (0xfd ∷ marker) (0 ∷ 3 ∷ 23 ∷ 0 ∷ 0 ∷ []) (0 ∷ 0 ∷ 0 ∷ [])
+    ∷ checks 1 1 Rgb (0xfd ∷ marker) (10 ∷ 0 ∷ 0 ∷ 0 ∷ 0 ∷ [])
+    ∷ opens (headerBytes (headerWith 20000 20000 Rgb)) (0 ∷ 20000 ∷ 20000 ∷ 3 ∷ 0 ∷ [])
+    ∷ opens (headerBytes (headerWith 20000 20001 Rgb)) (5 ∷ 20000 ∷ 20001 ∷ 0 ∷ 0 ∷ [])
+    ∷ encodesInto 1 1 0 (7 ∷ 7 ∷ 7 ∷ []) 25 (7 ∷ 25 ∷ 26 ∷ 0 ∷ 0 ∷ [])
+    ∷ encodesInto 2 1 0 (0 ∷ 0 ∷ 0 ∷ 0 ∷ 0 ∷ 0 ∷ 0 ∷ []) 100 (6 ∷ 7 ∷ 2 ∷ 1 ∷ 0 ∷ [])
+    ∷ encodesInto 1 1 0 [] 100 (2 ∷ 0 ∷ 0 ∷ 0 ∷ 0 ∷ [])
+    ∷ encodesInto 1 1 0 (0 ∷ 0 ∷ 0 ∷ 0 ∷ 0 ∷ []) 100 (2 ∷ 5 ∷ 0 ∷ 0 ∷ 0 ∷ [])
+    ∷ opens (0 ∷ 0 ∷ 0 ∷ 0 ∷ 0 ∷ 0 ∷ 0 ∷ 1 ∷ 0 ∷ 0 ∷ 0 ∷ 1 ∷ 5 ∷ 0 ∷ []) (2 ∷ 5 ∷ 0 ∷ 0 ∷ 0 ∷ [])
+    ∷ opens (0 ∷ 0 ∷ 0 ∷ 0 ∷ 0 ∷ 0 ∷ 0 ∷ 0 ∷ 0 ∷ 0 ∷ 0 ∷ 1 ∷ 3 ∷ 0 ∷ []) (4 ∷ 0 ∷ 0 ∷ 0 ∷ 0 ∷ [])
+    ∷ checks 5 1 Rgb
+      (0xfe ∷ 0x64 ∷ 0x00 ∷ 0x00 ∷ 0xfe ∷ 0x00 ∷ 0x00 ∷ 0x00 ∷ 0x21 ∷ 0x21 ∷ 0x35 ∷ marker)
+      (0 ∷ 5 ∷ 33 ∷ 0 ∷ 0 ∷ [])
+    ∷ []
+
+-- ways to get it wrong, where no row above shows them
+mistaken : List Case
+mistaken =
+    reads 3 1 Rgba 4 (0xff ∷ 0x00 ∷ 0x00 ∷ 0x00 ∷ 0x80 ∷ 0x05 ∷ 0x00 ∷ [])
+    (0 ∷ 0 ∷ 0 ∷ 128 ∷ 0 ∷ 0 ∷ 0 ∷ 0 ∷ 0 ∷ 0 ∷ 0 ∷ 128 ∷ [])
+    (0 ∷ 0 ∷ 0 ∷ 128 ∷ 0 ∷ 0 ∷ 0 ∷ 0 ∷ 0 ∷ 0 ∷ 0 ∷ 0 ∷ [])
+    ∷ encodes 2 1 Rgb (0 ∷ 0 ∷ 0 ∷ 100 ∷ 0 ∷ 0 ∷ []) (0xc0 ∷ 0xfe ∷ 0x64 ∷ 0x00 ∷ 0x00 ∷ [])
+    ∷ decodes 2 1 Rgb 3 (0xff ∷ 1 ∷ 2 ∷ 3 ∷ 4 ∷ 0xc0 ∷ marker) (8 ∷ 0 ∷ 0 ∷ 0 ∷ 0 ∷ []) (0 ∷ 0 ∷ 0 ∷ 0 ∷ 0 ∷ 0 ∷ [])
+    ∷ checks 2 1 Rgb (0xff ∷ 1 ∷ 2 ∷ 3 ∷ 4 ∷ 0xc0 ∷ marker) (8 ∷ 0 ∷ 0 ∷ 0 ∷ 0 ∷ [])
+    ∷ decodes 4 1 Rgb 4 (0x05 ∷ 0x7a ∷ 0xfe ∷ 9 ∷ 9 ∷ 9 ∷ 0x03 ∷ marker) (0 ∷ 16 ∷ 29 ∷ 0 ∷ 0 ∷ [])
+      (0 ∷ 0 ∷ 0 ∷ 0 ∷ 1 ∷ 0 ∷ 0 ∷ 0 ∷ 9 ∷ 9 ∷ 9 ∷ 0 ∷ 1 ∷ 0 ∷ 0 ∷ 0 ∷ [])
+    ∷ takesUp 5 1 Rgb 3 (0xfe ∷ 0x64 ∷ 0x00 ∷ 0x00 ∷ 0xfe ∷ 0x00 ∷ 0x00 ∷ 0x00 ∷ 0x21 ∷ 0x21 ∷ 0x35 ∷ []) 2 0xee
+      (100 ∷ 0 ∷ 0 ∷ 0 ∷ 0 ∷ 0 ∷ 100 ∷ 0 ∷ 0 ∷ 100 ∷ 0 ∷ 0 ∷ 0 ∷ 0 ∷ 0 ∷ [])
+    ∷ []
+
+-- what the notes on the Rust add: runs, the first slot, numbers that are not shortest or too large, bytes after the marker
+noted : List Case
+noted =
+    encodes 64 1 Rgb (100 ∷ 0 ∷ 0 ∷ replicate 189 0) (0xfe ∷ 0x64 ∷ 0x00 ∷ 0x00 ∷ 0xfe ∷ 0x00 ∷ 0x00 ∷ 0x00 ∷ 0xfd ∷ [])
+    ∷ encodes 3 1 Rgba (0 ∷ 0 ∷ 0 ∷ 0 ∷ 0 ∷ 0 ∷ 0 ∷ 0 ∷ 9 ∷ 0 ∷ 0 ∷ 9 ∷ []) (0x00 ∷ 0x00 ∷ 0xff ∷ 9 ∷ 0 ∷ 0 ∷ 9 ∷ [])
+    ∷ countsBack (0x82 ∷ 0x00 ∷ []) (9 ∷ 0 ∷ 0 ∷ 0 ∷ 0 ∷ [])
+    ∷ countsBack (0x82 ∷ []) (1 ∷ 0 ∷ 0 ∷ 0 ∷ 0 ∷ [])
+    ∷ counts 0 (0x00 ∷ [])
+    ∷ counts 18446744073709551615 (0xff ∷ 0xff ∷ 0xff ∷ 0xff ∷ 0xff ∷ 0xff ∷ 0xff ∷ 0xff ∷ 0xff ∷ 0x01 ∷ [])
+    ∷ countsBack (0xff ∷ 0xff ∷ 0xff ∷ 0xff ∷ 0xff ∷ 0xff ∷ 0xff ∷ 0xff ∷ 0xff ∷ 0x02 ∷ []) (9 ∷ 0 ∷ 0 ∷ 0 ∷ 0 ∷ [])
+    ∷ checks 1 1 Rgb (0xfd ∷ []) (10 ∷ 0 ∷ 0 ∷ 0 ∷ 0 ∷ [])
+    ∷ checks 1 1 Rgb (0xc0 ∷ (marker ++ (0 ∷ []))) (11 ∷ 0 ∷ 0 ∷ 0 ∷ 0 ∷ [])
+    ∷ decodes 1 1 Rgb 3 (0xc0 ∷ (marker ++ (0 ∷ []))) (0 ∷ 3 ∷ 23 ∷ 0 ∷ 0 ∷ []) (0 ∷ 0 ∷ 0 ∷ [])
+    ∷ []
+
+pub cases : List Case
+cases = proved ++ (compared ++ (mistaken ++ noted))
+
+-- every case holds
+pub cases-hold : T (allHold cases)
+unfolding allHold holds cases proved compared mistaken noted
+cases-hold = tt

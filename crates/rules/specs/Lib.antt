@@ -1,0 +1,11 @@
+-- Document 01 as definitions, one file a section: what an auditor reads first.
+pub mod Chunk
+pub mod Reading
+pub mod Decode
+pub mod Document
+pub mod Encode
+pub mod Step
+pub mod Record
+pub mod Strict
+pub mod Figures
+pub mod Cases

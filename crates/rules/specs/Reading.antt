@@ -1,0 +1,152 @@
+-- Reading a message chunk by chunk, over a `Way`: the points on which the decoder's rules and the document's differ.
+use mathlib.Core.Bool.{Bool, true, false, cond, _&&_}
+use mathlib.Core.List.{List, [], _∷_, _++_}
+use Prim.Native.Nat.{ℕ, zero, suc, _+_, _-_, _*_, min}
+use lib.Dec.{ltb, leb, eqb}
+use lib.ListN.{length, take, drop, set, replicate}
+use Rattle.pixel.specs.declared.Pixel.{Pixel}
+use Rattle.pixel.specs.declared.error.Error.{Error}
+use Rattle.pixel.specs.declared.error.Error.the-variants.{UnexpectedBufferEnd, InvalidPadding, OutputBufferTooSmall}
+use Rattle.pixel.specs.declared.types.ChannelsRead.{ChannelsRead}
+use Rattle.pixel.specs.declared.types.ChannelsRead.the-variants as channels-read
+use Rattle.pixel.specs.Colour.{slotOf, startPixel, clearPixel}
+use Rattle.pixel.specs.Types.{channelsNumber, channelsFrom}
+use Rattle.header.specs.declared.Header.{Header}
+use Rattle.header.specs.declared.HeaderRead.{HeaderRead}
+use Rattle.header.specs.declared.HeaderRead.the-variants as header-read
+use Rattle.header.specs.Header.{pixelCount, headerOf}
+use Rattle.rules.specs.Chunk.{Chunk, Found, cut, chunk, chunkAt, colourOf, timesOf, sizeOf}
+
+pub record Way : Type 0 where
+  -- which chunks store their pixel in its slot
+  pub stores : Chunk → Bool
+  -- the pixel that is kept and written, by the wanted channels
+  pub keeps : ℕ → Pixel → Pixel
+  -- whether ff is an RGBA chunk, by the header's channels
+  pub readsRgba : ℕ → Bool
+
+-- where a reading stands: byte position, pixel position, current pixel, slots
+pub record Place : Type 0 where
+  pub at : ℕ
+  pub pixel : ℕ
+  pub current : Pixel
+  pub slots : List Pixel
+
+-- bytes written and message bytes used, or a refusal
+pub data Answer : Type 0 where
+  done : ℕ → ℕ → Answer
+  refused : Error → Answer
+
+-- one move: on to the next place with the bytes that it writes, or the end
+pub data Move : Type 0 where
+  more : Place → List ℕ → Move
+  end : Answer → Move
+
+-- a whole reading: its answer and every byte that it wrote
+pub record Reading : Type 0 where
+  pub answer : Answer
+  pub bytes : List ℕ
+
+-- the end, with nothing written
+abbrev pub silent : Answer → Reading
+silent answer = record { answer = answer; bytes = [] }
+
+-- more bytes written before
+abbrev pub after : List ℕ → Reading → Reading
+after bytes r = record { answer = r .answer; bytes = bytes ++ r .bytes }
+
+-- seven 00 bytes and one 01
+abbrev pub marker : List ℕ
+marker = 0 ∷ 0 ∷ 0 ∷ 0 ∷ 0 ∷ 0 ∷ 0 ∷ 1 ∷ []
+
+-- whether two lists of bytes are the same
+unfoldable pub sameBytes : List ℕ → List ℕ → Bool
+sameBytes [] [] = true
+sameBytes [] (y ∷ ys) = false
+sameBytes (x ∷ xs) [] = false
+sameBytes (x ∷ xs) (y ∷ ys) = eqb x y && sameBytes xs ys
+
+-- bytes written so many times over
+unfoldable pub repeated : ℕ → List ℕ → List ℕ
+repeated zero bytes = []
+repeated (suc n) bytes = bytes ++ repeated n bytes
+
+-- what the message holds after its last chunk: under 8 bytes, refusal 1; not the marker, 8; later bytes are ignored
+unfoldable pub closing : ℕ → List ℕ → ℕ → Answer
+closing size message at =
+    cond (ltb (length (drop at message)) 8) (refused UnexpectedBufferEnd)
+    (cond (sameBytes (take 8 (drop at message)) marker) (done size (at + 8)) (refused InvalidPadding))
+
+-- before the first chunk: start pixel (0,0,0,255), 64 slots of (0,0,0,0)
+unfoldable pub startPlace : Place
+startPlace = record { at = 14; pixel = 0; current = startPixel; slots = replicate 64 clearPixel }
+
+module _ (way : Way) (header : Header) (wanted : ℕ) (message : List ℕ) where
+  -- the bytes of the whole picture
+  abbrev pub sizeWanted : ℕ
+  sizeWanted = pixelCount header * wanted
+
+  -- a run is clipped to the pixels left
+  unfoldable pub pixelsBrought : Place → Chunk → ℕ
+  pixelsBrought place k = min (timesOf k) (pixelCount header - place .pixel)
+
+  -- the pixel after a chunk
+  unfoldable pub pixelAfter : Place → Chunk → Pixel
+  pixelAfter place k = way .keeps wanted (colourOf (place .slots) (place .current) k)
+
+  -- the place after a chunk
+  unfoldable pub placeAfter : Place → Chunk → Place
+  placeAfter place k =
+      record {
+        at = place .at + sizeOf k;
+        pixel = place .pixel + pixelsBrought place k;
+        current = pixelAfter place k;
+        slots = cond (way .stores k) (set (place .slots) (slotOf (pixelAfter place k)) (pixelAfter place k)) (place .slots)
+      }
+
+  -- the bytes that a chunk writes
+  unfoldable pub bytesOf : Place → Chunk → List ℕ
+  bytesOf place k = repeated (pixelsBrought place k) (take wanted (pixelAfter place k .rgba))
+
+  -- a chunk whose bytes are not all there is refusal 1
+  unfoldable pub moveBy : Place → Found → Move
+  moveBy place cut = end (refused UnexpectedBufferEnd)
+  moveBy place (chunk k) = more (placeAfter place k) (bytesOf place k)
+
+  -- one chunk or, with no pixel left, the marker test
+  unfoldable pub move : Place → Move
+  move place =
+      cond (ltb (place .pixel) (pixelCount header))
+      (moveBy place (chunkAt (way .readsRgba (channelsNumber (header .channels))) (drop (place .at) message)))
+      (end (closing sizeWanted message (place .at)))
+
+  -- moves until the end; each brings a pixel, so with none left only the marker test is to do
+  unfoldable pub reading : ℕ → Place → Reading
+  reading zero place = silent (closing sizeWanted message (place .at))
+  reading (suc left) place =
+      elim (move place) [
+        more next bytes ↦ after bytes (reading left next)
+      | end answer ↦ silent answer
+      ]
+
+  -- the reading of a message whose header is known, into so many bytes: 7, then the chunks
+  unfoldable pub readingInto : ℕ → Reading
+  readingInto room =
+      elim (ltb room sizeWanted) [
+        true ↦ silent (refused (OutputBufferTooSmall room sizeWanted))
+      | false ↦ reading (pixelCount header) startPlace
+      ]
+
+module _ (way : Way) (message : List ℕ) (room : ℕ) where
+  -- 2 for wanted other than 3 or 4
+  unfoldable pub withWanted : Header → ChannelsRead → Reading
+  withWanted header (channels-read.Refused e) = silent (refused e)
+  withWanted header (channels-read.Ok channels) = readingInto way header (channelsNumber channels) message room
+
+  unfoldable pub withHeader : ℕ → HeaderRead → Reading
+  withHeader wanted (header-read.Refused e) = silent (refused e)
+  withHeader wanted (header-read.Ok header) = withWanted header (channelsFrom wanted)
+
+-- decoding: header, 2, 7, chunks
+unfoldable pub wholeReading : Way → List ℕ → ℕ → ℕ → Reading
+wholeReading way message wanted room = withHeader way message room wanted (headerOf message)

@@ -1,0 +1,103 @@
+-- The record of a state: its bytes, writing them, and reading them left to right with the order of the refusals.
+use mathlib.Core.Bool.{Bool, true, false, cond}
+use mathlib.Core.List.{List, [], _∷_, _++_}
+use Prim.Native.Nat.{ℕ, zero, suc}
+use lib.Dec.{ltb, leb, eqb}
+use lib.ListN.{length, getD, drop}
+use Rattle.pixel.specs.declared.Pixel.{Pixel}
+use Rattle.pixel.specs.declared.error.Error.{Error}
+use Rattle.pixel.specs.declared.error.Error.the-variants.{UnexpectedBufferEnd, BadState, OutputBufferTooSmall}
+use Rattle.pixel.specs.declared.types.ChannelsRead.{ChannelsRead}
+use Rattle.pixel.specs.declared.types.ChannelsRead.the-variants as channels-read
+use Rattle.pixel.specs.Colour.{pixelOf}
+use Rattle.pixel.specs.Types.{channelsNumber, channelsFrom}
+use Rattle.number.specs.declared.NumberRead.{NumberRead}
+use Rattle.number.specs.declared.NumberRead.the-variants as number-read
+use Rattle.number.specs.Seven.{sevenBits, readNumber}
+use Rattle.header.specs.declared.Header.{Header}
+use Rattle.header.specs.declared.HeaderRead.{HeaderRead}
+use Rattle.header.specs.declared.HeaderRead.the-variants as header-read
+use Rattle.header.specs.Header.{headerBytes, headerOf}
+use Rattle.rules.specs.Step.{State, wellFormed, Started, started, notStarted}
+
+-- pixels one after another, four bytes each
+unfoldable pub pixelsBytes : List Pixel → List ℕ
+pixelsBytes [] = []
+pixelsBytes (p ∷ ps) = p .rgba ++ pixelsBytes ps
+
+-- 14 header bytes; wanted, byte position, pixel position in groups of seven bits; current pixel; slots in order
+unfoldable pub recordBytes : State → List ℕ
+recordBytes s =
+    headerBytes (s .header)
+    ++ (sevenBits (s .wanted)
+    ++ (sevenBits (s .place .at)
+    ++ (sevenBits (s .place .pixel)
+    ++ (s .place .current .rgba
+    ++ pixelsBytes (s .place .slots)))))
+
+-- the record's length, or a refusal
+pub data Recorded : Type 0 where
+  recorded : ℕ → Recorded
+  notRecorded : Error → Recorded
+
+-- writing a record into so many bytes: 9, 7 with its length
+unfoldable pub recording : State → ℕ → Recorded
+recording s room =
+    cond (wellFormed s)
+    (cond (ltb room (length (recordBytes s))) (notRecorded (OutputBufferTooSmall room (length (recordBytes s))))
+    (recorded (length (recordBytes s))))
+    (notRecorded BadState)
+
+-- the output then: the record and what stood after it; after a refusal, what it held
+unfoldable pub recordedOver : State → List ℕ → List ℕ
+recordedOver s out =
+    cond (wellFormed s) (cond (ltb (length out) (length (recordBytes s))) out (recordBytes s ++ drop (length (recordBytes s)) out)) out
+
+-- so many pixels of four bytes
+unfoldable pub readPixels : ℕ → List ℕ → List Pixel
+readPixels zero bytes = []
+readPixels (suc n) bytes =
+    pixelOf (getD bytes 0 0) (getD bytes 1 0) (getD bytes 2 0) (getD bytes 3 0) ∷ readPixels n (drop 4 bytes)
+
+-- a number, and then what follows its bytes
+unfoldable pub withNumber : List ℕ → NumberRead → (ℕ → List ℕ → Started) → Started
+withNumber bytes (number-read.Number value used) next = next value (drop used bytes)
+withNumber bytes (number-read.Refused e) next = notStarted e
+
+-- after the last slot: the other faults of state, 9; extra bytes last, 9
+unfoldable pub readEnd : State → ℕ → Started
+readEnd s left =
+    cond (wellFormed s) (cond (eqb left 0) (started s) (notStarted BadState)) (notStarted BadState)
+
+-- the current pixel and the slots: 260 bytes, cut short is 1
+unfoldable pub readSlots : Header → ℕ → ℕ → ℕ → List ℕ → Started
+readSlots header wanted at pixel bytes =
+    cond (ltb (length bytes) 260) (notStarted UnexpectedBufferEnd)
+    (readEnd
+    (record {
+      header = header;
+      wanted = wanted;
+      place = record {
+        at = at;
+        pixel = pixel;
+        current = getD (readPixels 1 bytes) 0 (pixelOf 0 0 0 0);
+        slots = readPixels 64 (drop 4 bytes)
+      }
+    })
+    (length (drop 260 bytes)))
+
+-- after wanted, where other than 3 or 4 is 2: byte position and pixel position
+unfoldable pub readPositions : Header → ChannelsRead → List ℕ → Started
+readPositions header (channels-read.Refused e) bytes = notStarted e
+readPositions header (channels-read.Ok channels) bytes =
+    withNumber bytes (readNumber bytes)
+    (λ at rest. withNumber rest (readNumber rest) (λ pixel rest′. readSlots header (channelsNumber channels) at pixel rest′))
+
+unfoldable pub readWanted : HeaderRead → List ℕ → Started
+readWanted (header-read.Refused e) bytes = notStarted e
+readWanted (header-read.Ok header) bytes =
+    withNumber bytes (readNumber bytes) (λ wanted rest. readPositions header (channelsFrom wanted) rest)
+
+-- reading a record: header; numbers, cut 1 or not shortest 9; wanted 2 at its place; slots; the faults of state; extra bytes
+unfoldable pub readRecord : List ℕ → Started
+readRecord bytes = readWanted (headerOf bytes) (drop 14 bytes)
