@@ -1,8 +1,9 @@
 // The fourteen header bytes: read and written, the limits on dimensions, and the room that a picture may need.
 ghost use mathlib.Core.Path.{_≡_};
-ghost use Prim.Native.Nat.{_+_, _*_};
+ghost use Prim.Native.Nat.{_+_, _*_, _≤_};
+ghost use lib.ListN.{length};
 ghost use Rattle.pixel.specs.Types.{channelsNumber};
-ghost use Rattle.header.specs.Header.{headerBytes, headerOf, headerFrom, defaultHeader, withChannels, withColorSpace, pixelCount, pixelBytes, encodedRoom, saturated, bigEndian};
+ghost use Rattle.header.specs.Header.{headerBytes, headerOf, headerFrom, defaultHeader, withChannels, withColorSpace, pixelCount, pixelBytes, encodedRoom, saturated, bigEndian, numberAt, afterChannels, afterColorSpace};
 use pixel::consts::QOI_HEADER_SIZE;
 use pixel::consts::QOI_MAGIC;
 use pixel::consts::QOI_PADDING_SIZE;
@@ -48,7 +49,7 @@ impl Header {
         ensures { λ r. ⌜ r ≡ headerFrom width height channels colorspace ⌝ }
     {
         let pixels = product(width, height);
-        if pixels == 0 {
+        if pixels < 1 {
             return HeaderRead::Refused(Error::InvalidImageDimensions { width, height });
         }
         if QOI_PIXELS_MAX < pixels {
@@ -92,8 +93,8 @@ impl Header {
     {
         let w = self.width;
         let h = self.height;
-        let channels = self.channels;
-        let colorspace = self.colorspace;
+        let c = self.channels;
+        let s = self.colorspace;
         [
             113,
             111,
@@ -107,8 +108,8 @@ impl Header {
             (h / 0x1_0000 % 256) as u8,
             (h / 256 % 256) as u8,
             (h % 256) as u8,
-            channels.as_u8(),
-            colorspace.as_u8(),
+            c.as_u8(),
+            s.as_u8(),
         ]
     }
 
@@ -119,21 +120,7 @@ impl Header {
         if message.len() < QOI_HEADER_SIZE {
             return HeaderRead::Refused(Error::UnexpectedBufferEnd);
         }
-        let magic = big_endian(message[0], message[1], message[2], message[3]);
-        let width = big_endian(message[4], message[5], message[6], message[7]);
-        let height = big_endian(message[8], message[9], message[10], message[11]);
-        match Channels::try_from(wide(message[12])) {
-            ChannelsRead::Refused(e) => HeaderRead::Refused(e),
-            ChannelsRead::Ok(channels) => match ColorSpace::try_from(wide(message[13])) {
-                ColorSpaceRead::Refused(e) => HeaderRead::Refused(e),
-                ColorSpaceRead::Ok(colorspace) => {
-                    if magic != QOI_MAGIC {
-                        return HeaderRead::Refused(Error::InvalidMagic { magic });
-                    }
-                    Header::try_new(width, height, channels, colorspace)
-                }
-            },
-        }
+        after_channels(message, Channels::try_from(wide(message[12])))
     }
 
     pub fn n_pixels(self) -> usize
@@ -146,17 +133,62 @@ impl Header {
     pub fn n_bytes(self) -> usize
         ensures { λ r. ⌜ r ≡ pixelBytes self ⌝ }
     {
-        let channels = self.channels;
-        saturating_mul(product(self.width, self.height), channels.as_u8() as usize)
+        let c = self.channels;
+        saturating_mul(self.n_pixels(), c.as_u8() as usize)
     }
 
     // The most that the encoded picture takes, saturating.
     pub fn encode_max_len(self) -> usize
         ensures { λ r. ⌜ r ≡ encodedRoom (self .width) (self .height) (channelsNumber (self .channels)) ⌝ }
     {
-        let channels = self.channels;
-        encode_max_len(self.width, self.height, channels.as_u8())
+        let c = self.channels;
+        encode_max_len(self.width, self.height, c.as_u8())
     }
+}
+
+// What follows the channels: the colour space.
+fn after_channels(message: &[u8], read: ChannelsRead) -> HeaderRead
+    requires { ⌜ 14 ≤ length (now message) ⌝ }
+    ensures { λ r. ⌜ r ≡ afterChannels (now (message .entry)) read ⌝ }
+{
+    match read {
+        ChannelsRead::Refused(e) => HeaderRead::Refused(e),
+        ChannelsRead::Ok(channels) => {
+            after_color_space(message, channels, ColorSpace::try_from(wide(message[13])))
+        }
+    }
+}
+
+// What follows the colour space: the magic, then the dimensions.
+fn after_color_space(message: &[u8], channels: Channels, read: ColorSpaceRead) -> HeaderRead
+    requires { ⌜ 14 ≤ length (now message) ⌝ }
+    ensures { λ r. ⌜ r ≡ afterColorSpace (now (message .entry)) channels read ⌝ }
+{
+    match read {
+        ColorSpaceRead::Refused(e) => HeaderRead::Refused(e),
+        ColorSpaceRead::Ok(colorspace) => {
+            let magic = number_at(message, 0);
+            if magic != QOI_MAGIC {
+                return HeaderRead::Refused(Error::InvalidMagic { magic });
+            }
+            let width = number_at(message, 4);
+            let height = number_at(message, 8);
+            Header::try_new(width, height, channels, colorspace)
+        }
+    }
+}
+
+// The 32-bit big-endian number at a place.
+fn number_at(message: &[u8], at: usize) -> u32
+    requires { ⌜ at + 4 ≤ length (now message) ⌝ }
+    ensures { λ r. ⌜ r ≡ numberAt (now (message .entry)) at ⌝ }
+{
+    big_endian(
+        message[at],
+        message[at + 1],
+        message[at + 2],
+        message[at + 3],
+    )
 }
 
 // The header that a message starts with.
@@ -199,11 +231,10 @@ fn saturating_mul(a: usize, b: usize) -> usize
 fn saturating_add(a: usize, b: usize) -> usize
     ensures { λ r. ⌜ r ≡ saturated (a + b) ⌝ }
 {
-    if a <= 0xffff_ffff_ffff_ffff - b {
-        a + b
-    } else {
-        0xffff_ffff_ffff_ffff
+    if 0xffff_ffff_ffff_ffff - b < a {
+        return 0xffff_ffff_ffff_ffff;
     }
+    a + b
 }
 
 // Four bytes as a 32-bit big-endian number.

@@ -80,10 +80,10 @@ fn group_below(byte: u8, after: NumberRead) -> NumberRead
 pub fn len(value: u64) -> usize
     ensures { λ r. ⌜ r ≡ length (sevenBits value) ⌝ }
 {
-    let mut left = value;
+    let mut above = value;
     let mut used: usize = 1;
-    while 128 <= left {
-        left = left / 128;
+    while 128 <= above {
+        above = above / 128;
         used += 1;
     }
     used

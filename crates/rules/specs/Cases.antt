@@ -16,9 +16,9 @@ use Rattle.rules.specs.Chunk.{chunkFrom, chunkAt, colourOf, timesOf, siz
 use Rattle.rules.specs.Reading.{Reading, Answer, marker, sameBytes, repeated, closing, startPlace, pixelsBrought, pixelAfter, placeAfter, bytesOf, moveBy, move, reading, readingInto, withWanted, withHeader, wholeReading}
 use Rattle.rules.specs.Decode.{decoderStores, decoderKeeps, decoderReadsRgba, decoding, restOf}
 use Rattle.rules.specs.Document.{documentReading}
-use Rattle.rules.specs.Encode.{fitsDiff, fitsLuma, diffBytes, lumaBytes, colourBytes, startPen, runEnded, slotHolds, differingBytes, penAfter, chunksFrom, pixelFrom, pixelsFrom, streamOf, encodingInto, withSpace, withCount, withDimensions, encoding}
+use Rattle.rules.specs.Encode.{fitsDiff, fitsLuma, diffBytes, lumaBytes, colourBytes, startPen, runEnded, slotHolds, differingBytes, pixelChunks, penAfter, chunksFrom, pixelFrom, pixelsFrom, streamOf, encodingInto, withSpace, withCount, withDimensions, encoding}
 use Rattle.rules.specs.Step.{State, wellFormed, Started, started, notStarted, startWanted, startHeader, starting, stepBy, step, steppedOver, Ran, going, ended, running}
-use Rattle.rules.specs.Record.{pixelsBytes, recordBytes, recording, readPixels, withNumber, readEnd, readSlots, readPositions, readWanted, readRecord}
+use Rattle.rules.specs.Record.{pixelsBytes, recordBytes, recording, readPixel, readPixels, withNumber, readEnd, readSlots, readPositions, readWanted, readRecord}
 use Rattle.rules.specs.Strict.{strictClosed, strictClosing, strictCounted, strictBy, strictMove, strictFrom, strictHeader, strict}
 use Rattle.rules.specs.Figures.{headerFigures, answerFigures, encodeFigures, strictFigures, numberFigures, startFigures}
 
@@ -59,7 +59,7 @@ resumed : List ℕ → ℕ → List ℕ → ℕ → Started → List ℕ
 resumed m limit out found (notStarted e) = []
 resumed m limit out found (started s) =
     let kept = s .place .pixel * s .wanted in
-    afterRun (running limit s m (take kept out ++ replicate (length (drop kept out)) found))
+    afterRun (running m limit s (take kept out ++ replicate (length (drop kept out)) found))
 
 checkpointed : List ℕ → ℕ → ℕ → Ran → List ℕ
 checkpointed m limit found (going s out) = resumed m limit out found (readRecord (recordBytes s))
@@ -67,11 +67,11 @@ checkpointed m limit found (ended answer s out) = []
 
 begun : List ℕ → ℕ → ℕ → ℕ → ℕ → Started → List ℕ
 begun m steps limit size found (notStarted e) = []
-begun m steps limit size found (started s) = checkpointed m limit found (running steps s m (replicate size 0))
+begun m steps limit size found (started s) = checkpointed m limit found (running m steps s (replicate size 0))
 
 -- whether a case holds of the definitions
 pub holds : Case → Bool
-unfolding afterRun resumed checkpointed begun slotOf sevenBitsOf sevenBits groupBelow readMore readNumber headerBytes headerFrom afterColorSpace afterChannels headerOf chunkFrom chunkAt colourOf timesOf sizeOf sameBytes repeated closing startPlace pixelsBrought pixelAfter placeAfter bytesOf moveBy move reading readingInto withWanted withHeader wholeReading decoderStores decoderKeeps decoderReadsRgba fitsDiff fitsLuma diffBytes lumaBytes colourBytes startPen runEnded slotHolds differingBytes penAfter chunksFrom pixelFrom pixelsFrom streamOf encodingInto withSpace withCount withDimensions encoding wellFormed startWanted startHeader starting stepBy step running pixelsBytes recordBytes readPixels withNumber readEnd readSlots readPositions readWanted readRecord strictClosed strictClosing strictCounted strictBy strictMove strictFrom strictHeader strict
+unfolding afterRun resumed checkpointed begun slotOf sevenBitsOf sevenBits groupBelow readMore readNumber headerBytes headerFrom afterColorSpace afterChannels headerOf chunkFrom chunkAt colourOf timesOf sizeOf sameBytes repeated closing startPlace pixelsBrought pixelAfter placeAfter bytesOf moveBy move reading readingInto withWanted withHeader wholeReading decoderStores decoderKeeps decoderReadsRgba fitsDiff fitsLuma diffBytes lumaBytes colourBytes startPen runEnded slotHolds differingBytes pixelChunks penAfter chunksFrom pixelFrom pixelsFrom streamOf encodingInto withSpace withCount withDimensions encoding wellFormed startWanted startHeader starting stepBy step running pixelsBytes recordBytes readPixel readPixels withNumber readEnd readSlots readPositions readWanted readRecord strictClosed strictClosing strictCounted strictBy strictMove strictFrom strictHeader strict
 holds (encodes width height channels picture chunks) =
     sameBytes (encoding picture width height 0 1000000 .bytes) (message width height channels chunks)
 holds (encodesInto width height colorspace picture room figures) =
@@ -172,10 +172,27 @@ noted =
     ∷ decodes 1 1 Rgb 3 (0xc0 ∷ (marker ++ (0 ∷ []))) (0 ∷ 3 ∷ 23 ∷ 0 ∷ 0 ∷ []) (0 ∷ 0 ∷ 0 ∷ [])
     ∷ []
 
+-- the ends of the ranges that choose DIFF, LUMA and RGB
+edges : List Case
+edges =
+    encodes 1 1 Rgb (254 ∷ 254 ∷ 254 ∷ []) (0x40 ∷ [])
+    ∷ encodes 1 1 Rgb (1 ∷ 1 ∷ 1 ∷ []) (0x7f ∷ [])
+    ∷ encodes 1 1 Rgb (2 ∷ 0 ∷ 0 ∷ []) (0xa0 ∷ 0xa8 ∷ [])
+    ∷ encodes 1 1 Rgb (253 ∷ 0 ∷ 0 ∷ []) (0xa0 ∷ 0x58 ∷ [])
+    ∷ encodes 1 1 Rgb (0 ∷ 0 ∷ 2 ∷ []) (0xa0 ∷ 0x8a ∷ [])
+    ∷ encodes 1 1 Rgb (31 ∷ 31 ∷ 31 ∷ []) (0xbf ∷ 0x88 ∷ [])
+    ∷ encodes 1 1 Rgb (32 ∷ 32 ∷ 32 ∷ []) (0xfe ∷ 32 ∷ 32 ∷ 32 ∷ [])
+    ∷ encodes 1 1 Rgb (224 ∷ 224 ∷ 224 ∷ []) (0x80 ∷ 0x88 ∷ [])
+    ∷ encodes 1 1 Rgb (223 ∷ 223 ∷ 223 ∷ []) (0xfe ∷ 223 ∷ 223 ∷ 223 ∷ [])
+    ∷ encodes 1 1 Rgb (7 ∷ 0 ∷ 248 ∷ []) (0xa0 ∷ 0xf0 ∷ [])
+    ∷ encodes 1 1 Rgb (8 ∷ 0 ∷ 0 ∷ []) (0xfe ∷ 8 ∷ 0 ∷ 0 ∷ [])
+    ∷ encodes 1 1 Rgb (0 ∷ 0 ∷ 247 ∷ []) (0xfe ∷ 0 ∷ 0 ∷ 247 ∷ [])
+    ∷ []
+
 pub cases : List Case
-cases = proved ++ (compared ++ (mistaken ++ noted))
+cases = proved ++ (compared ++ (mistaken ++ (noted ++ edges)))
 
 -- every case holds
 pub cases-hold : T (allHold cases)
-unfolding allHold holds cases proved compared mistaken noted
+unfolding allHold holds cases proved compared mistaken noted edges
 cases-hold = tt

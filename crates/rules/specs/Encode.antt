@@ -79,30 +79,36 @@ slotHolds pen p = samePixel (getD (pen .slots) (slotOf p) clearPixel) p
 unfoldable pub differingBytes : Pen → Pixel → List ℕ
 differingBytes pen p = cond (slotHolds pen p) (slotOf p ∷ []) (colourBytes (pen .previous) p)
 
--- after a differing pixel: it is stored, where its slot did not hold it
-unfoldable pub penAfter : Pen → Pixel → Pen
-penAfter pen p = record { slots = set (pen .slots) (slotOf p) p; previous = p; run = 0; differed = true }
+-- a run that one more pixel makes is written at 62 or at the last pixel
+abbrev pub runWritten : Pen → Bool → Bool
+runWritten pen last = eqb (pen .run + 1) 62 || last
 
--- the same pen with another run
-abbrev pub withRun : Pen → ℕ → Pen
-withRun pen run = record { slots = pen .slots; previous = pen .previous; run = run; differed = pen .differed }
+-- what is written for a pixel, which may be the last: one equal to its predecessor lengthens the run
+unfoldable pub pixelChunks : Pen → Bool → Pixel → List ℕ
+pixelChunks pen last p =
+    cond (samePixel p (pen .previous)) (cond (runWritten pen last) (runByte (pen .run + 1) ∷ []) [])
+    (runEnded pen ++ differingBytes pen p)
+
+-- what the encoder remembers then; a differing pixel is in its slot
+unfoldable pub penAfter : Pen → Bool → Pixel → Pen
+penAfter pen last p =
+    cond (samePixel p (pen .previous))
+    (record {
+      slots = pen .slots;
+      previous = pen .previous;
+      run = cond (runWritten pen last) 0 (pen .run + 1);
+      differed = pen .differed
+    })
+    (record { slots = set (pen .slots) (slotOf p) p; previous = p; run = 0; differed = true })
 
 abbrev pub isLast : List Pixel → Bool
 isLast [] = true
 isLast (p ∷ rest) = false
 
--- the chunks of the pixels still to come; a pixel equal to the last lengthens the run, which is written at 62 or at the last pixel
+-- the chunks of the pixels still to come
 unfoldable pub chunksFrom : Pen → List Pixel → List ℕ
 chunksFrom pen [] = []
-chunksFrom pen (p ∷ rest) =
-    elim (samePixel p (pen .previous)) [
-      true ↦
-        elim (eqb (pen .run + 1) 62 || isLast rest) [
-          true ↦ runByte (pen .run + 1) ∷ chunksFrom (withRun pen 0) rest
-        | false ↦ chunksFrom (withRun pen (pen .run + 1)) rest
-        ]
-    | false ↦ runEnded pen ++ (differingBytes pen p ++ chunksFrom (penAfter pen p) rest)
-    ]
+chunksFrom pen (p ∷ rest) = pixelChunks pen (isLast rest) p ++ chunksFrom (penAfter pen (isLast rest) p) rest
 
 -- the pixel that some bytes start with; with three channels its alpha is 255
 unfoldable pub pixelFrom : ℕ → List ℕ → Pixel
@@ -137,10 +143,8 @@ module _ (picture : List ℕ) (room : ℕ) where
   unfoldable pub encodingInto : Header → Encoding
   encodingInto header =
       let required = encodedRoom (header .width) (header .height) (channelsNumber (header .channels)) in
-      elim (ltb room required) [
-        true ↦ nothingEncoded (OutputBufferTooSmall room required)
-      | false ↦ record { answer = encoded (length (streamOf header picture)); bytes = streamOf header picture }
-      ]
+      cond (ltb room required) (nothingEncoded (OutputBufferTooSmall room required))
+      (record { answer = encoded (length (streamOf header picture)); bytes = streamOf header picture })
 
   -- then 3 for a colour space above 1
   unfoldable pub withSpace : Header → ColorSpaceRead → Encoding
@@ -157,10 +161,9 @@ module _ (picture : List ℕ) (room : ℕ) where
   unfoldable pub withDimensions : ℕ → HeaderRead → Encoding
   withDimensions colorspace (header-read.Refused e) = nothingEncoded e
   withDimensions colorspace (header-read.Ok header) =
-      elim (eqb (length picture % pixelCount header) 0) [
-        true ↦ withCount header colorspace (channelsFrom (length picture / pixelCount header))
-      | false ↦ nothingEncoded (InvalidImageLength (length picture) (header .width) (header .height))
-      ]
+      cond (eqb (length picture % pixelCount header) 0)
+      (withCount header colorspace (channelsFrom (length picture / pixelCount header)))
+      (nothingEncoded (InvalidImageLength (length picture) (header .width) (header .height)))
 
 -- encoding a picture of these dimensions and this colour space into so many bytes: 5, 6, 2, 3, 7
 unfoldable pub encoding : List ℕ → ℕ → ℕ → ℕ → ℕ → Encoding

@@ -47,6 +47,11 @@ pub record Reading : Type 0 where
   pub answer : Answer
   pub bytes : List ℕ
 
+-- some moves: where they lead and what they wrote, or the end
+pub data Played : Type 0 where
+  going : Place → List ℕ → Played
+  ended : Reading → Played
+
 -- the end, with nothing written
 abbrev pub silent : Answer → Reading
 silent answer = record { answer = answer; bytes = [] }
@@ -54,6 +59,20 @@ silent answer = record { answer = answer; bytes = [] }
 -- more bytes written before
 abbrev pub after : List ℕ → Reading → Reading
 after bytes r = record { answer = r .answer; bytes = bytes ++ r .bytes }
+
+-- a move, and then the reading from where it leads
+abbrev pub readOn : (Place → Reading) → Move → Reading
+readOn next (more place bytes) = after bytes (next place)
+readOn next (end answer) = silent answer
+
+abbrev pub playedAfter : List ℕ → Played → Played
+playedAfter bytes (going place written) = going place (bytes ++ written)
+playedAfter bytes (ended r) = ended (after bytes r)
+
+-- a move, and then those that follow it
+abbrev pub playOn : (Place → Played) → Move → Played
+playOn next (more place bytes) = playedAfter bytes (next place)
+playOn next (end answer) = ended (silent answer)
 
 -- seven 00 bytes and one 01
 abbrev pub marker : List ℕ
@@ -120,22 +139,21 @@ module _ (way : Way) (header : Header) (wanted : ℕ) (message : List ℕ) where
       (moveBy place (chunkAt (way .readsRgba (channelsNumber (header .channels))) (drop (place .at) message)))
       (end (closing sizeWanted message (place .at)))
 
+  -- at most so many moves
+  unfoldable pub played : ℕ → Place → Played
+  played zero place = going place []
+  played (suc n) place = playOn (played n) (move place)
+
   -- moves until the end; each brings a pixel, so with none left only the marker test is to do
   unfoldable pub reading : ℕ → Place → Reading
   reading zero place = silent (closing sizeWanted message (place .at))
-  reading (suc left) place =
-      elim (move place) [
-        more next bytes ↦ after bytes (reading left next)
-      | end answer ↦ silent answer
-      ]
+  reading (suc left) place = readOn (reading left) (move place)
 
   -- the reading of a message whose header is known, into so many bytes: 7, then the chunks
   unfoldable pub readingInto : ℕ → Reading
   readingInto room =
-      elim (ltb room sizeWanted) [
-        true ↦ silent (refused (OutputBufferTooSmall room sizeWanted))
-      | false ↦ reading (pixelCount header) startPlace
-      ]
+      cond (ltb room sizeWanted) (silent (refused (OutputBufferTooSmall room sizeWanted)))
+      (reading (pixelCount header) startPlace)
 
 module _ (way : Way) (message : List ℕ) (room : ℕ) where
   -- 2 for wanted other than 3 or 4

@@ -53,11 +53,14 @@ unfoldable pub recordedOver : State → List ℕ → List ℕ
 recordedOver s out =
     cond (wellFormed s) (cond (ltb (length out) (length (recordBytes s))) out (recordBytes s ++ drop (length (recordBytes s)) out)) out
 
+-- the pixel of the first four bytes
+unfoldable pub readPixel : List ℕ → Pixel
+readPixel bytes = pixelOf (getD bytes 0 0) (getD bytes 1 0) (getD bytes 2 0) (getD bytes 3 0)
+
 -- so many pixels of four bytes
 unfoldable pub readPixels : ℕ → List ℕ → List Pixel
 readPixels zero bytes = []
-readPixels (suc n) bytes =
-    pixelOf (getD bytes 0 0) (getD bytes 1 0) (getD bytes 2 0) (getD bytes 3 0) ∷ readPixels n (drop 4 bytes)
+readPixels (suc n) bytes = readPixel bytes ∷ readPixels n (drop 4 bytes)
 
 -- a number, and then what follows its bytes
 unfoldable pub withNumber : List ℕ → NumberRead → (ℕ → List ℕ → Started) → Started
@@ -80,7 +83,7 @@ readSlots header wanted at pixel bytes =
       place = record {
         at = at;
         pixel = pixel;
-        current = getD (readPixels 1 bytes) 0 (pixelOf 0 0 0 0);
+        current = readPixel bytes;
         slots = readPixels 64 (drop 4 bytes)
       }
     })

@@ -1,14 +1,15 @@
 -- Steps: the state that moves on by value, when it is well formed, a start, one step, and so many steps.
 use mathlib.Core.Bool.{Bool, true, false, cond, not, _&&_, _||_}
 use mathlib.Core.List.{List, [], _++_}
-use Prim.Native.Nat.{ℕ, zero, suc, _+_, _*_}
+use mathlib.Core.Path.{_≡_}
+use Prim.Native.Nat.{ℕ, zero, suc, _+_, _*_, _^_, _<_}
 use lib.Dec.{ltb, leb, eqb}
-use lib.ListN.{length, take, drop}
+use lib.ListN.{length, getD, take, drop}
 use Rattle.pixel.specs.declared.error.Error.{Error}
 use Rattle.pixel.specs.declared.error.Error.the-variants.{BadState, OutputBufferTooSmall}
 use Rattle.pixel.specs.declared.types.ChannelsRead.{ChannelsRead}
 use Rattle.pixel.specs.declared.types.ChannelsRead.the-variants as channels-read
-use Rattle.pixel.specs.Colour.{alpha}
+use Rattle.pixel.specs.Colour.{alpha, clearPixel}
 use Rattle.pixel.specs.Types.{channelsNumber, channelsFrom}
 use Rattle.header.specs.declared.Header.{Header}
 use Rattle.header.specs.declared.HeaderRead.{HeaderRead}
@@ -23,15 +24,38 @@ pub record State : Type 0 where
   pub wanted : ℕ
   pub place : Place
 
--- the header passes its own test, wanted is 3 or 4, byte position is at least 14, pixel position at most the pixels,
--- and the current pixel's fourth byte is 255 when wanted is 3
+-- the header passes its own test
+abbrev pub headerPasses : State → Bool
+headerPasses s = dimensionsFit (s .header .width) (s .header .height)
+
+-- wanted is 3 or 4
+abbrev pub wantedPasses : State → Bool
+wantedPasses s = eqb (s .wanted) 3 || eqb (s .wanted) 4
+
+-- byte position is at least 14
+abbrev pub atPasses : State → Bool
+atPasses s = leb 14 (s .place .at)
+
+-- pixel position at most the pixels
+abbrev pub pixelPasses : State → Bool
+pixelPasses s = leb (s .place .pixel) (pixelCount (s .header))
+
+-- the current pixel's fourth byte is 255 when wanted is 3
+abbrev pub alphaPasses : State → Bool
+alphaPasses s = not (eqb (s .wanted) 3) || eqb (alpha (s .place .current)) 255
+
+-- a state is well formed if it passes all five
 unfoldable pub wellFormed : State → Bool
-wellFormed s =
-    dimensionsFit (s .header .width) (s .header .height)
-    && ((eqb (s .wanted) 3 || eqb (s .wanted) 4)
-    && (leb 14 (s .place .at)
-    && (leb (s .place .pixel) (pixelCount (s .header))
-    && (not (eqb (s .wanted) 3) || eqb (alpha (s .place .current)) 255))))
+wellFormed s = headerPasses s && (wantedPasses s && (atPasses s && (pixelPasses s && alphaPasses s)))
+
+-- what the types of a state's parts say by themselves: numbers that fit, four bytes a pixel, 64 slots
+pub record Typed (s : State) : Type 0 where
+  pub width-fits : s .header .width < 2 ^ 32
+  pub height-fits : s .header .height < 2 ^ 32
+  pub at-fits : s .place .at < 2 ^ 64
+  pub current-is : length (s .place .current .rgba) ≡ 4
+  pub slots-are : length (s .place .slots) ≡ 64
+  pub slot-is : (i : ℕ) → i < 64 → length (getD (s .place .slots) i clearPixel .rgba) ≡ 4
 
 -- a state, or a refusal
 pub data Started : Type 0 where
@@ -64,14 +88,11 @@ stepBy s (Move.end answer) = end answer
 -- a step into an output of so many bytes: 9, 7, then the chunk (a byte position past the message has none: 1)
 unfoldable pub step : State → List ℕ → ℕ → Step
 step s message room =
-    elim (wellFormed s) [
-      false ↦ end (refused BadState)
-    | true ↦
-        elim (ltb room (pixelCount (s .header) * s .wanted)) [
-          true ↦ end (refused (OutputBufferTooSmall room (pixelCount (s .header) * s .wanted)))
-        | false ↦ stepBy s (move decoder (s .header) (s .wanted) message (s .place))
-        ]
-    ]
+    cond (wellFormed s)
+    (cond (ltb room (pixelCount (s .header) * s .wanted))
+    (end (refused (OutputBufferTooSmall room (pixelCount (s .header) * s .wanted))))
+    (stepBy s (move decoder (s .header) (s .wanted) message (s .place))))
+    (end (refused BadState))
 
 -- a lent output after a step: the bytes from the state's pixel on, and all others as they were
 abbrev pub steppedOver : State → List ℕ → List ℕ → List ℕ
@@ -83,11 +104,12 @@ pub data Ran : Type 0 where
   going : State → List ℕ → Ran
   ended : Answer → State → List ℕ → Ran
 
+-- a step, and then those that follow it
+abbrev pub runOn : (State → List ℕ → Ran) → State → List ℕ → Step → Ran
+runOn next s out (more s′ bytes) = next s′ (steppedOver s bytes out)
+runOn next s out (end answer) = ended answer s out
+
 -- at most so many steps; none tests nothing
-unfoldable pub running : ℕ → State → List ℕ → List ℕ → Ran
-running zero s message out = going s out
-running (suc n) s message out =
-    elim (step s message (length out)) [
-      more next bytes ↦ running n next message (steppedOver s bytes out)
-    | end answer ↦ ended answer s out
-    ]
+unfoldable pub running : List ℕ → ℕ → State → List ℕ → Ran
+running message zero s out = going s out
+running message (suc n) s out = runOn (running message n) s out (step s message (length out))

@@ -30,6 +30,11 @@ pub data StrictMove : Type 0 where
   more : Tally → StrictMove
   end : StrictAnswer → StrictMove
 
+-- a move, and then the check from where it leads
+abbrev pub checkOn : (Tally → StrictAnswer) → StrictMove → StrictAnswer
+checkOn next (more tally) = next tally
+checkOn next (end verdict) = verdict
+
 module _ (header : Header) (message : List ℕ) where
   -- at the end 1 and 8 as a decode, then 11 where something follows the marker
   unfoldable pub strictClosed : ℕ → Answer → StrictAnswer
@@ -66,7 +71,7 @@ module _ (header : Header) (message : List ℕ) where
   -- moves until the end; each counts a pixel, so with none left only the end is to do
   unfoldable pub strictFrom : ℕ → Tally → StrictAnswer
   strictFrom zero tally = strictClosing tally
-  strictFrom (suc n) tally = elim (strictMove tally) [ more next ↦ strictFrom n next | end verdict ↦ verdict ]
+  strictFrom (suc n) tally = checkOn (strictFrom n) (strictMove tally)
 
 unfoldable pub strictHeader : List ℕ → HeaderRead → StrictAnswer
 strictHeader message (header-read.Refused e) = rejected e

@@ -1,14 +1,12 @@
+-- `header::product` meets its contract: the product of two 32-bit numbers has 64 bits.
 use borrow.Author.Needs.{needs}
+use Rattle.header.proofs.Laws.{product-fits}
 use Rattle.header.proofs.product.Statement.{statement}
 use Rattle.header.proofs.product.Tie as tie
-use Rattle.header.proofs.product.Reads as reads
-use Rattle.header.proofs.product.Lts as lts
 
--- src/lib.rt:170:5
 mul-result : tie.Need-mul-result
-mul-result c = ?
+mul-result c = record { fits = product-fits (search needs) (search needs) }
 
--- src/lib.rt:167:1
 returns : tie.Need-returns
 returns c = search needs
 

@@ -1,44 +1,45 @@
+-- `number::group_below` meets its contract: what it requires leaves room for the group and for one byte more.
+use native.Mathlib.Omega.{arith}
 use borrow.Author.Needs.{needs}
+use Rattle.number.specs.declared.NumberRead.the-variants as read
+use Rattle.number.specs.Inner.{GroupFits}
+use Rattle.number.specs.Seven.{groupBelow}
 use Rattle.number.proofs.group_below.Statement.{statement}
 use Rattle.number.proofs.group_below.Tie as tie
-use Rattle.number.proofs.group_below.Reads as reads
-use Rattle.number.proofs.group_below.Lts as lts
 
--- src/lib.rt:71:30
+-- what is required, where a number follows
+room : (c : tie.After-known-told)
+    → GroupFits (c .before .before .before .args .byte) (read.Number (c .before .after .given .0 .0) (c .before .after .given .0 .1 .0))
+room c = rw (c .before .after .given .1) at (c .before .before .before .pre)
+
 enum-known-after : tie.Need-enum-known-after
 enum-known-after c = search needs
 
--- src/lib.rt:72:21
 sub-t7 : tie.Need-sub-t7
-sub-t7 c = ?
+sub-t7 c = omega (arith, room c)
 
--- src/lib.rt:72:20
 cast-t8 : tie.Need-cast-t8
 cast-t8 c = search needs
 
--- src/lib.rt:72:42
 mul-t9 : tie.Need-mul-t9
-mul-t9 c = ?
+mul-t9 c = omega (arith, room c)
 
--- src/lib.rt:72:20
 add-t10 : tie.Need-add-t10
-add-t10 c = ?
+add-t10 c = omega (arith, room c)
 
--- src/lib.rt:73:19
 add-t11 : tie.Need-add-t11
-add-t11 c = ?
+add-t11 c = omega (arith, room c)
 
--- src/lib.rt:75:29
 enum-known-after-2 : tie.Need-enum-known-after-2
 enum-known-after-2 c = search needs
 
--- src/lib.rt:66:1
 returns : tie.Need-returns
-returns c = ?
+unfolding groupBelow
+returns c = rw (c .before .after .given .1)
 
--- src/lib.rt:66:1
 returns-2 : tie.Need-returns-2
-returns-2 c = ?
+unfolding groupBelow
+returns-2 c = rw (c .before .after2 .given .1)
 
 pub group-below-spec : {M : Type 1} → statement M
 group-below-spec =

@@ -1,33 +1,33 @@
+-- `number::len` meets its contract: the bytes counted and those of what is left make those of the number, with one counted ahead.
+use Prim.Native.Nat.{suc, _+_, _^_, _<_}
+use mathlib.Core.Path.{_≡_, ap}
+use native.Mathlib.Omega.{arith}
+use lib.ListN.{length}
+use Rattle.number.specs.Seven.{sevenBits}
+use Rattle.number.proofs.Laws.{length-at-most-ten, length-one, first-byte}
 use Rattle.number.proofs.len.Statement.{statement}
 use Rattle.number.proofs.len.Tie as tie
-use Rattle.number.proofs.len.Reads as reads
-use Rattle.number.proofs.len.Lts as lts
 
 abbrev Inv-loop : tie.InvT-loop
-Inv-loop value left₀ used₀ left used = ?
+Inv-loop value above₀ used₀ above used = (above < 2 ^ 64) × (used + length (sevenBits above) ≡ suc (length (sevenBits value)))
 
 abbrev μ-loop : tie.MeasureT-loop
-μ-loop value left₀ used₀ left used = ?
+μ-loop value above₀ used₀ above used = above
 
--- src/lib.rt:85:5
 loop-holds : tie.Need-loop-holds Inv-loop μ-loop
-loop-holds c = ?
+loop-holds c = omega arith
 
--- src/lib.rt:87:9
 add-used : tie.Need-add-used Inv-loop μ-loop
-add-used c = ?
+add-used c = omega (arith, length-at-most-ten (c .before .before .args .value))
 
--- src/lib.rt:85:5
 loop-less : tie.Need-loop-less Inv-loop μ-loop
-loop-less c = ?
+loop-less c = omega arith
 
--- src/lib.rt:85:5
 loop-again : tie.Need-loop-again Inv-loop μ-loop
-loop-again c = ?
+loop-again c = omega (arith, ap length (first-byte (c .before .loop .above) (omega arith) (omega arith)))
 
--- src/lib.rt:80:1
 returns : tie.Need-returns Inv-loop μ-loop
-returns c = ?
+returns c = omega (arith, length-one (c .before .loop .above) (omega arith))
 
 pub len-spec : {M : Type 1} → statement M
 len-spec = tie.close (tie.spec Inv-loop μ-loop loop-holds add-used loop-less loop-again returns)

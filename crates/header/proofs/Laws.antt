@@ -1,0 +1,147 @@
+-- The laws of the header: its bytes read back, how many they are and how large, and what an accepted header is like.
+use mathlib.Core.Path.{_≡_, refl}
+use mathlib.Core.Bool.{Bool, true, false, cond}
+use mathlib.Core.List.{List, [], _∷_, _++_}
+use Prim.Native.Nat.{ℕ, zero, suc, _*_, _/_, _%_, _^_, _≤_, _<_}
+use native.Mathlib.Nat.{le-of-lt, lt-of-le-of-lt, mul-le-mul-left, mul-lt-mul-of-pos-right, mod-eq-of-lt, div-div-eq-div-mul}
+use native.Mathlib.Omega.{arith}
+use lib.Dec.{T, ltb, eqb, lit<}
+use lib.ListN.{length, getD}
+use borrow.Author.Needs.{needs}
+use borrow.Author.Tests.{le-ltb, ltb-false}
+use Rattle.pixel.specs.Types.{channelsNumber, colorSpaceNumber, channelsFrom, colorSpaceFrom}
+use Rattle.pixel.specs.declared.error.Error.{Error}
+use Rattle.pixel.specs.declared.types.Channels.{Channels}
+use Rattle.pixel.specs.declared.types.Channels.the-variants.{Rgb, Rgba}
+use Rattle.pixel.specs.declared.types.ColorSpace.{ColorSpace}
+use Rattle.pixel.specs.declared.types.ColorSpace.the-variants.{Srgb, Linear}
+use Rattle.pixel.specs.declared.types.ChannelsRead.{ChannelsRead}
+use Rattle.pixel.specs.declared.types.ChannelsRead.the-variants as channels-read
+use Rattle.pixel.specs.declared.types.ColorSpaceRead.{ColorSpaceRead}
+use Rattle.pixel.specs.declared.types.ColorSpaceRead.the-variants as colorspace-read
+use Rattle.header.specs.declared.Header.{Header}
+use Rattle.header.specs.declared.HeaderRead.{HeaderRead}
+use Rattle.header.specs.declared.HeaderRead.the-variants.{Ok, Refused}
+use Rattle.header.specs.Header.{dimensionsFit, bigEndian, headerBytes, headerFrom, magicNumber, numberAt, afterColorSpace, afterChannels, headerOf}
+
+-- two numbers of 32 bits have a product of 64
+pub product-fits : {a b : ℕ} → a < 2 ^ 32 → b < 2 ^ 32 → a * b < 2 ^ 64
+product-fits {a} ha hb = lt-of-le-of-lt (mul-le-mul-left a (le-of-lt hb)) (mul-lt-mul-of-pos-right ha (lit< tt))
+
+-- a 32-bit number is read back from its four bytes
+big-endian-read-back :
+    (n : ℕ) → n < 2 ^ 32 → bigEndian (n / 16777216 % 256) (n / 65536 % 256) (n / 256 % 256) (n % 256) ≡ n
+big-endian-read-back n small =
+    let top : n / 16777216 % 256 ≡ n / 16777216 = mod-eq-of-lt (omega arith) in
+    omega (arith, div-div-eq-div-mul n 256 256, div-div-eq-div-mul n 65536 256)
+
+channels-read-back : (c : Channels) → channelsFrom (channelsNumber c) ≡ channels-read.Ok c
+channels-read-back Rgb = refl
+channels-read-back Rgba = refl
+
+color-space-read-back : (s : ColorSpace) → colorSpaceFrom (colorSpaceNumber s) ≡ colorspace-read.Ok s
+color-space-read-back Srgb = refl
+color-space-read-back Linear = refl
+
+is-true : (b : Bool) → T b → b ≡ true
+is-true true t = refl
+is-true false t = absurd t
+
+-- the header's bytes read back, whatever follows
+pub header-read-back :
+    (h : Header) (rest : List ℕ) → h .width < 2 ^ 32 → h .height < 2 ^ 32 → T (dimensionsFit (h .width) (h .height))
+    → headerOf (headerBytes h ++ rest) ≡ Ok h
+unfolding headerBytes headerOf afterChannels afterColorSpace headerFrom
+header-read-back h rest narrow low fit =
+    simp (le-ltb (length (headerBytes h ++ rest)) 14 (omega arith), channels-read-back, color-space-read-back, big-endian-read-back (h .width) narrow, big-endian-read-back (h .height) low, is-true (dimensionsFit (h .width) (h .height)) fit)
+
+-- the header is fourteen bytes long
+pub header-length : (h : Header) → length (headerBytes h) ≡ 14
+unfolding headerBytes
+header-length h = refl
+
+-- each number of a list is below 256
+abbrev Bytes : List ℕ → Type 0
+Bytes [] = Unit {0}
+Bytes (x ∷ xs) = (x < 256) × Bytes xs
+
+byte-at : (xs : List ℕ) → Bytes xs → (i : ℕ) → getD xs i 0 < 256
+byte-at [] below i = lit< tt
+byte-at (x ∷ xs) below zero = below .0
+byte-at (x ∷ xs) below (suc i) = byte-at xs (below .1) i
+
+channels-byte : (c : Channels) → channelsNumber c < 256
+channels-byte Rgb = lit< tt
+channels-byte Rgba = lit< tt
+
+color-space-byte : (s : ColorSpace) → colorSpaceNumber s < 256
+color-space-byte Srgb = lit< tt
+color-space-byte Linear = lit< tt
+
+-- every byte of the header is below 256
+pub header-byte : (h : Header) (i : ℕ) → i < 14 → getD (headerBytes h) i 0 < 256
+unfolding headerBytes
+header-byte h i inside =
+    let channels = channels-byte (h .channels) in
+    let colorspace = color-space-byte (h .colorspace) in
+    byte-at (headerBytes h) (search needs) i
+
+-- what an accepted header is like: 1 to 400,000,000 pixels, fourteen bytes or more, and 32-bit dimensions if it was read from bytes
+pub record Accepted (bytes : List ℕ) (h : Header) : Type 0 where
+  pub fit : T (dimensionsFit (h .width) (h .height))
+  pub whole : 14 ≤ length bytes
+  pub narrow : ((i : ℕ) → getD bytes i 0 < 256) → (h .width < 2 ^ 32) × (h .height < 2 ^ 32)
+
+refused-is-not-ok : (e : Error) (h : Header) → Refused e ≡ Ok h → ⊥
+refused-is-not-ok e h p = let z : _≡_ {A = ℕ} 0 1 = cc in omega arith
+
+-- a test that passed, where failing is a refusal
+passed : (b : Bool) (r : HeaderRead) (e : Error) (h : Header) → cond b r (Refused e) ≡ Ok h → T b × (r ≡ Ok h)
+passed true r e h p = (tt, p)
+passed false r e h p = absurd (refused-is-not-ok e h p)
+
+-- a test that failed, where passing is a refusal
+failed : (b : Bool) (r : HeaderRead) (e : Error) (h : Header) → cond b (Refused e) r ≡ Ok h → (b ≡ false) × (r ≡ Ok h)
+failed true r e h p = absurd (refused-is-not-ok e h p)
+failed false r e h p = (refl, p)
+
+-- the header has these dimensions, and they fit
+Fitting : ℕ → ℕ → Header → Type 0
+Fitting width height h = T (dimensionsFit (h .width) (h .height)) × (h .width ≡ width) × (h .height ≡ height)
+
+from-fitting :
+    (width height : ℕ) (c : Channels) (s : ColorSpace) (h : Header) → headerFrom width height c s ≡ Ok h
+    → Fitting width height h
+unfolding headerFrom Fitting
+from-fitting width height c s h p =
+    let made : Header = record { width = width; height = height; channels = c; colorspace = s } in
+    let q = passed (dimensionsFit width height) (Ok made) _ h p in
+    let same : made ≡ h = cc in
+    rw (← same) (q .0, refl, refl)
+
+module _ (bytes : List ℕ) (h : Header) where
+  after-color-space-fitting :
+      (c : Channels) (read : ColorSpaceRead) → afterColorSpace bytes c read ≡ Ok h
+      → Fitting (numberAt bytes 4) (numberAt bytes 8) h
+  unfolding afterColorSpace
+  after-color-space-fitting c (colorspace-read.Refused e) p = absurd (refused-is-not-ok e h p)
+  after-color-space-fitting c (colorspace-read.Ok s) p =
+      from-fitting _ _ c s h (passed (eqb (numberAt bytes 0) magicNumber) _ _ h p .1)
+
+  after-channels-fitting :
+      (read : ChannelsRead) → afterChannels bytes read ≡ Ok h → Fitting (numberAt bytes 4) (numberAt bytes 8) h
+  unfolding afterChannels
+  after-channels-fitting (channels-read.Refused e) p = absurd (refused-is-not-ok e h p)
+  after-channels-fitting (channels-read.Ok c) p = after-color-space-fitting c (colorSpaceFrom (getD bytes 13 0)) p
+
+  -- a header that is read is an accepted one
+  pub header-accepted : headerOf bytes ≡ Ok h → Accepted bytes h
+  unfolding headerOf Fitting
+  header-accepted p =
+      let long = failed (ltb (length bytes) 14) _ _ h p in
+      let fitting = after-channels-fitting (channelsFrom (getD bytes 12 0)) (long .1) in
+      record {
+        fit = fitting .0;
+        whole = ltb-false _ _ (long .0);
+        narrow = λ small. (omega (arith, fitting .1, small 4, small 5, small 6, small 7), omega (arith, fitting .2, small 8, small 9, small 10, small 11));
+      }

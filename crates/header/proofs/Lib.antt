@@ -1,0 +1,2 @@
+-- The proofs of crate `header` that belong to no one function.
+pub mod Laws

@@ -1,0 +1,187 @@
+-- The number code's laws: a written number reads back, how long it is, what its bytes are, and what a number that is read is below.
+use Prim.Native.Nat.{ℕ, zero, suc, _+_, _-_, _*_, _/_, _%_, _^_, _≤_, _<_}
+use mathlib.Core.Path.{_≡_, refl, sym, ap, subst, _∙_}
+use mathlib.Core.Bool.{Bool, true, false, cond}
+use mathlib.Core.List.{List, [], _∷_, _++_}
+use native.Mathlib.Nat.{pow-suc, one-le-pow, lt-of-not-le}
+use native.Mathlib.Numerals.{add-one}
+use native.Mathlib.Decide.{decLe}
+use native.Mathlib.Omega.{arith}
+use lib.Dec.{eqb}
+use lib.ListN.{length, drop, getD}
+use lib.Seq.{drop-append-seam}
+use borrow.Author.Tests.{lt-ltb, le-ltb, eq-eqb, ne-eqb}
+use Rattle.number.specs.declared.NumberRead.{NumberRead}
+use Rattle.number.specs.declared.NumberRead.the-variants as read
+use Rattle.number.specs.Seven.{sevenBits, sevenBitsOf, readNumber, readMore, groupBelow}
+
+-- a number is one group of seven bits, or more
+by-size : {P : Type 0} (n : ℕ) → (n < 128 → P) → (128 ≤ n → P) → P
+by-size {P} n one more = go (decLe 128 n)
+  where
+    go : Dec (128 ≤ n) → P
+    go (yes h) = more h
+    go (no h) = one (lt-of-not-le h)
+
+-- one group is one byte, itself
+last-byte : (more n : ℕ) → n < 128 → sevenBitsOf more n ≡ n ∷ []
+unfolding sevenBitsOf
+last-byte zero n h = refl
+last-byte (suc more) n h = rw (lt-ltb n 128 h)
+
+-- of more groups the lowest comes first, with the top bit set
+next-byte : (more n : ℕ) → 128 ≤ n → sevenBitsOf (suc more) n ≡ (128 + n % 128) ∷ sevenBitsOf more (n / 128)
+unfolding sevenBitsOf
+next-byte more n h = rw (le-ltb n 128 h)
+
+-- bytes beyond those that a number needs may be allowed: they are not written
+enough : (k more n : ℕ) → n < 128 ^ suc k → k ≤ more → sevenBitsOf more n ≡ sevenBitsOf k n
+enough zero more n h le = last-byte more n h ∙ sym (last-byte zero n h)
+enough (suc k) zero n h le = absurd (omega arith)
+enough (suc k) (suc more) n h le =
+    by-size n (λ low. last-byte (suc more) n low ∙ sym (last-byte (suc k) n low))
+    (λ high.
+    next-byte more n high
+    ∙ ap {B = List ℕ} (λ l. (128 + n % 128) ∷ l) (enough k more (n / 128) (omega (arith, pow-suc 128 (suc k))) (omega arith))
+    ∙ sym (next-byte k n high))
+
+-- a number below 128 is written as one byte, itself
+pub one-byte : (n : ℕ) → n < 128 → sevenBits n ≡ n ∷ []
+unfolding sevenBits
+one-byte n h = last-byte 9 n h
+
+-- any other is its lowest group with the top bit set, and then what is left of it as it would be written
+pub first-byte : (n : ℕ) → 128 ≤ n → n < 2 ^ 64 → sevenBits n ≡ (128 + n % 128) ∷ sevenBits (n / 128)
+unfolding sevenBits
+first-byte n high fits =
+    next-byte 8 n high ∙ ap {B = List ℕ} (λ l. (128 + n % 128) ∷ l) (sym (enough 8 9 (n / 128) (omega arith) (omega arith)))
+
+-- with `more` bytes allowed after the first, a number takes one byte at least and `more` and one at most
+length-of : (more n : ℕ) → (1 ≤ length (sevenBitsOf more n)) × (length (sevenBitsOf more n) ≤ suc more)
+unfolding sevenBitsOf
+length-of zero n = omega arith
+length-of (suc more) n =
+    by-size n (λ low. rw (last-byte (suc more) n low) (omega arith))
+    (λ high. rw (next-byte more n high) (omega (arith, length-of more (n / 128))))
+
+-- a number takes one byte at least
+pub length-at-least-one : (n : ℕ) → 1 ≤ length (sevenBits n)
+unfolding sevenBits
+length-at-least-one n = length-of 9 n .0
+
+-- a number takes ten bytes at most
+pub length-at-most-ten : (n : ℕ) → length (sevenBits n) ≤ 10
+unfolding sevenBits
+length-at-most-ten n = length-of 9 n .1
+
+-- a number below 128^(k + 1), k + 1 groups, takes k + 1 bytes at most
+pub length-at-most : (k n : ℕ) → k ≤ 9 → n < 128 ^ suc k → length (sevenBits n) ≤ suc k
+unfolding sevenBits
+length-at-most k n le h = rw (enough k 9 n h le) (length-of k n .1)
+
+-- a number below 128 takes one byte
+pub length-one : (n : ℕ) → n < 128 → length (sevenBits n) ≡ 1
+length-one n h = ap length (one-byte n h)
+
+-- a number of 35 bits takes five bytes at most
+pub length-at-most-five : (n : ℕ) → n < 2 ^ 35 → length (sevenBits n) ≤ 5
+length-at-most-five n h = length-at-most 4 n (omega arith) h
+
+-- the lowest group below what is left of a number gives the number
+below-written : (n used : ℕ) → groupBelow (128 + n % 128) (read.Number (n / 128) used) ≡ read.Number n (suc used)
+unfolding groupBelow
+below-written n used =
+    let back : 128 + n % 128 - 128 + 128 * (n / 128) ≡ n = omega arith in
+    rw (back, add-one)
+
+-- bytes after the first read back: they stand for a number above 0
+more-read-written : (more n : ℕ) (rest : List ℕ) → 1 ≤ n → n < 2 * 128 ^ more
+    → readMore more (sevenBitsOf more n ++ rest) ≡ read.Number n (length (sevenBitsOf more n))
+unfolding readMore sevenBitsOf
+more-read-written zero n rest some fits =
+    let one : n ≡ 1 = omega arith in
+    rw (eq-eqb n 1 one, one)
+more-read-written (suc more) n rest some fits =
+    by-size n (λ low. rw (last-byte (suc more) n low, lt-ltb n 128 low, ne-eqb n 0 (omega arith)))
+    (λ high.
+    rw (next-byte more n high, le-ltb (128 + n % 128) 128 (omega arith), more-read-written more (n / 128) rest (omega arith) (omega (arith, pow-suc 128 more)))
+    (below-written n (length (sevenBitsOf more (n / 128)))))
+
+-- reading a written number gives it back
+pub read-written : (n : ℕ) (rest : List ℕ) → n < 2 ^ 64 → readNumber (sevenBits n ++ rest) ≡ read.Number n (length (sevenBits n))
+unfolding readNumber sevenBits
+read-written n rest fits =
+    by-size n (λ low. rw (last-byte 9 n low, lt-ltb n 128 low))
+    (λ high.
+    rw (next-byte 8 n high, le-ltb (128 + n % 128) 128 (omega arith), more-read-written 8 (n / 128) rest (omega arith) (omega arith))
+    (below-written n (length (sevenBitsOf 8 (n / 128)))))
+
+-- the bytes that a written number took, dropped, leave what stands after it
+pub rest-after-written : (n : ℕ) (rest : List ℕ) → drop (length (sevenBits n)) (sevenBits n ++ rest) ≡ rest
+rest-after-written n rest = drop-append-seam (sevenBits n) rest
+
+-- each element of a list is a byte
+abbrev pub Bytes : List ℕ → Type 0
+Bytes bytes = (i : ℕ) → i < length bytes → getD bytes i 0 < 256
+
+-- the bytes of a written number, of which `more` may follow the first, are below 256
+bytes-cons : (byte : ℕ) (rest : List ℕ) → byte < 256 → Bytes rest → Bytes (byte ∷ rest)
+bytes-cons byte rest first others zero h = first
+bytes-cons byte rest first others (suc i) h = others i (omega arith)
+
+bytes-none : Bytes []
+bytes-none i h = absurd (omega arith)
+
+bytes-of : (more n : ℕ) → n < 128 ^ suc more → Bytes (sevenBitsOf more n)
+unfolding sevenBitsOf
+bytes-of zero n fits = bytes-cons n [] (omega arith) bytes-none
+bytes-of (suc more) n fits =
+    by-size n (λ low. rw (last-byte (suc more) n low) (bytes-cons n [] (omega arith) bytes-none))
+    (λ high.
+    rw (next-byte more n high)
+    (bytes-cons (128 + n % 128) (sevenBitsOf more (n / 128)) (omega arith) (bytes-of more (n / 128) (omega (arith, pow-suc 128 (suc more))))))
+
+-- each byte of a written number is below 256
+pub written-bytes : (n : ℕ) → n < 2 ^ 64 → Bytes (sevenBits n)
+unfolding sevenBits
+written-bytes n fits = bytes-of 9 n (omega arith)
+
+-- what is read lies below a limit, and took at least one and at most so many of the bytes
+abbrev pub Within : ℕ → ℕ → List ℕ → NumberRead → Type 0
+Within limit most bytes (read.Number value used) = (value < limit) × (1 ≤ used) × (used ≤ most) × (used ≤ length bytes)
+Within limit most bytes (read.Refused e) = Unit {0}
+
+-- what holds of both ways of a test holds of what it picks
+either-read : (P : NumberRead → Type 0) (test : Bool) (a b : NumberRead) → P a → P b → P (cond test a b)
+either-read P true a b ha hb = ha
+either-read P false a b ha hb = hb
+
+-- a group below it keeps it so
+group-within : (byte limit above most : ℕ) (rest : List ℕ) (after : NumberRead) → 128 ≤ byte → byte < 256 → limit * 128 ≤ above
+    → Within limit most rest after → Within above (suc most) (byte ∷ rest) (groupBelow byte after)
+unfolding groupBelow
+group-within byte limit above most rest (read.Number value used) low high room within = omega arith
+group-within byte limit above most rest (read.Refused e) low high room within = tt
+
+-- what the bytes after the first say, `more` and one at most
+pub more-within : (more : ℕ) (bytes : List ℕ) → Bytes bytes → Within (2 * 128 ^ more) (suc more) bytes (readMore more bytes)
+unfolding readMore
+more-within more [] are = tt
+more-within zero (byte ∷ rest) are = either-read (Within 2 1 (byte ∷ rest)) (eqb byte 1) _ _ (omega arith) tt
+more-within (suc more) (byte ∷ rest) are =
+    by-size byte
+    (λ low. rw (lt-ltb byte 128 low) (either-read (Within (2 * 128 ^ suc more) (suc (suc more)) (byte ∷ rest)) (eqb byte 0) _ _ tt (omega (arith, pow-suc 128 more, one-le-pow more 128 (omega arith)))))
+    (λ high. rw (le-ltb byte 128 high) (group-within byte (2 * 128 ^ more) (2 * 128 ^ suc more) (suc more) rest (readMore more rest) high (are 0 (omega arith)) (omega (arith, pow-suc 128 more)) (more-within more rest (λ i h. are (suc i) (omega arith)))))
+
+-- what a part says
+number-within : (bytes : List ℕ) → Bytes bytes → Within (2 ^ 64) 10 bytes (readNumber bytes)
+unfolding readNumber
+number-within [] are = tt
+number-within (byte ∷ rest) are =
+    by-size byte (λ low. rw (lt-ltb byte 128 low) (omega arith))
+    (λ high. rw (le-ltb byte 128 high) (group-within byte (2 ^ 57) (2 ^ 64) 9 rest (readMore 8 rest) high (are 0 (omega arith)) (omega arith) (more-within 8 rest (λ i h. are (suc i) (omega arith)))))
+
+-- a number that is read from bytes is below 2^64 and took one to ten of them
+pub read-bounds : (bytes : List ℕ) (value used : ℕ) → Bytes bytes → readNumber bytes ≡ read.Number value used
+    → (value < 2 ^ 64) × (1 ≤ used) × (used ≤ 10) × (used ≤ length bytes)
+read-bounds bytes value used are e = subst (Within (2 ^ 64) 10 bytes) e (number-within bytes are)

@@ -1,0 +1,3 @@
+-- The proofs of crate `number` that belong to no one function.
+pub mod Laws
+mod Reading

@@ -1,0 +1,3 @@
+-- The laws of the definitions, for the layers above to cite.
+pub mod ReadingLaws
+pub mod RecordLaws

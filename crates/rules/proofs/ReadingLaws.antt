@@ -1,0 +1,141 @@
+-- Laws of a reading, over every way: each move brings a pixel, so the end comes within the pixels plus one moves, and no more is written than the picture.
+-- Assumes nothing.
+use mathlib.Core.Path.{_≡_, refl, sym, _∙_, ap, subst}
+use mathlib.Core.Bool.{Bool, true, false, cond}
+use mathlib.Core.List.{List, [], _∷_, _++_}
+use Prim.Native.Nat.{ℕ, zero, suc, _+_, _-_, _*_, _%_, _≤_, _<_, min, zero-le}
+use native.Mathlib.Nat.{le-trans, le-refl, add-mul, suc-mul, mul-le-mul-left, mul-le-mul-right, le-of-eq, min-le-right}
+use native.Mathlib.Omega.{arith}
+use borrow.Author.Tests.{ltb-true, ltb-false, le-ltb, lt-ltb}
+use lib.Dec.{ltb}
+use lib.ListN.{length, take, drop, length-append, length-take}
+use Rattle.header.specs.declared.Header.{Header}
+use Rattle.header.specs.Header.{pixelCount}
+use Rattle.pixel.specs.Types.{channelsNumber}
+use Rattle.rules.specs.Chunk.{Chunk, Found, cut, chunk, chunkFrom, chunkAt, timesOf, INDEX, DIFF, LUMA, RUN, RGB, RGBA, Stuck}
+use Rattle.rules.specs.Reading.{Way, Place, Answer, Move, more, end, Reading, Played, going, ended, silent, after, playedAfter, readOn, playOn, repeated, closing, sizeWanted, pixelsBrought, pixelAfter, placeAfter, bytesOf, moveBy, move, played, reading}
+
+-- what holds of both holds of the one that a test picks
+cond-both : {A : Type 0} (P : A → Type 0) (b : Bool) {x y : A} → P x → P y → P (cond b x y)
+cond-both P true px py = px
+cond-both P false px py = py
+
+-- a chunk that is found brings at least one pixel
+data Brings : Found → Type 0 where
+  nothing : Brings cut
+  some : {k : Chunk} → 1 ≤ timesOf k → Brings (chunk k)
+
+brings-if : (b : Bool) {x y : Found} → Brings x → Brings y → Brings (cond b x y)
+brings-if b p q = cond-both Brings b p q
+
+brings-run : (n : ℕ) → Brings (chunk (RUN (n + 1)))
+unfolding timesOf
+brings-run n = some {k = RUN (n + 1)} (omega arith)
+
+chunk-brings : (readsRgba : Bool) (bytes : List ℕ) → Brings (chunkAt readsRgba bytes)
+unfolding chunkAt chunkFrom timesOf
+chunk-brings readsRgba [] = nothing
+chunk-brings readsRgba (byte ∷ rest) = search (brings-if, brings-run, nothing, some, le-refl) depth 12
+
+-- bytes written so many times over are at most so many times their bound
+repeated-size : (n : ℕ) (bytes : List ℕ) {bound : ℕ} → length bytes ≤ bound → length (repeated n bytes) ≤ n * bound
+unfolding repeated
+repeated-size zero bytes fits = zero-le
+repeated-size (suc n) bytes {bound} fits =
+    simp (length-append, suc-mul) (omega (arith, repeated-size n bytes fits))
+
+module _ (way : Way) (header : Header) (wanted : ℕ) (message : List ℕ) where
+  -- the two kinds of move: by a chunk that brings a pixel where one is missing, and the end
+  pub data Moved (place : Place) : Move → Type 0 where
+    by-chunk :
+      (k : Chunk) → 1 ≤ timesOf k → place .pixel < pixelCount header
+      → Moved place (more (placeAfter way header wanted message place k) (bytesOf way header wanted message place k))
+    at-end : (answer : Answer) → Moved place (end answer)
+
+  moved-by : (place : Place) → place .pixel < pixelCount header → (f : Found) → Brings f → Moved place (moveBy way header wanted message place f)
+  unfolding moveBy
+  moved-by place missing cut nothing = at-end _
+  moved-by place missing (chunk k) (some b) = by-chunk k b missing
+
+  pub moved : (place : Place) → Moved place (move way header wanted message place)
+  unfolding move
+  moved place = go (ltb (place .pixel) (pixelCount header)) refl
+    where
+      found : Found
+      found = chunkAt (way .readsRgba (channelsNumber (header .channels))) (drop (place .at) message)
+      go :
+        (b : Bool) → ltb (place .pixel) (pixelCount header) ≡ b
+        → Moved place (cond b (moveBy way header wanted message place found) (end (closing (sizeWanted way header wanted message) message (place .at))))
+      go true e = moved-by place (ltb-true _ _ e) found (chunk-brings _ _)
+      go false e = at-end _
+
+  -- with no pixel missing a move is the marker test
+  pub moved-last :
+    (place : Place) → pixelCount header ≤ place .pixel
+    → move way header wanted message place ≡ end (closing (sizeWanted way header wanted message) message (place .at))
+  unfolding move
+  moved-last place none = rw (le-ltb (place .pixel) (pixelCount header) none)
+
+  -- a chunk that brings a pixel moves the pixel position on, and never past the picture
+  pub advances :
+    (place : Place) (k : Chunk) → 1 ≤ timesOf k → place .pixel < pixelCount header
+    → place .pixel < placeAfter way header wanted message place k .pixel
+  unfolding placeAfter pixelsBrought
+  advances place k once missing = omega arith
+
+  pub stays-within :
+    (place : Place) (k : Chunk) → place .pixel ≤ pixelCount header
+    → placeAfter way header wanted message place k .pixel ≤ pixelCount header
+  unfolding placeAfter pixelsBrought
+  stays-within place k within = omega arith
+
+  -- the end comes within the pixels missing plus one moves, and is the reading's
+  pub reading-ends :
+    (n : ℕ) (place : Place) → pixelCount header ≤ place .pixel + n
+    → played way header wanted message (suc n) place ≡ ended (reading way header wanted message n place)
+  unfolding played reading
+  reading-ends zero place none = rw (played, moved-last place (omega arith))
+  reading-ends (suc n) place few = go (reading-ends n) (move way header wanted message place) (moved place)
+    where
+      go :
+        ((next : Place) → pixelCount header ≤ next .pixel + n → played way header wanted message (suc n) next ≡ ended (reading way header wanted message n next))
+        → (m : Move) → Moved place m
+        → playOn (played way header wanted message (suc n)) m ≡ ended (readOn (reading way header wanted message n) m)
+      go ih m (at-end answer) = refl
+      go ih m (by-chunk k once missing) =
+          ap (playedAfter _)
+          (ih (placeAfter way header wanted message place k) (omega (arith, advances place k once missing)))
+
+  -- a chunk writes at most its pixels
+  chunk-size :
+    (place : Place) (k : Chunk)
+    → length (bytesOf way header wanted message place k) ≤ pixelsBrought way header wanted message place k * wanted
+  unfolding bytesOf
+  chunk-size place k =
+      repeated-size (pixelsBrought way header wanted message place k) (take wanted (pixelAfter way header wanted message place k .rgba))
+      (simp length-take (omega arith))
+
+  missing-split :
+    (place : Place) (k : Chunk) → place .pixel ≤ pixelCount header
+    → pixelCount header - place .pixel
+      ≡ pixelsBrought way header wanted message place k + (pixelCount header - placeAfter way header wanted message place k .pixel)
+  unfolding placeAfter pixelsBrought
+  missing-split place k within = omega arith
+
+  -- a reading never writes more bytes than the pixels missing times wanted
+  pub reading-size :
+    (n : ℕ) (place : Place)
+    → length (reading way header wanted message n place .bytes) ≤ (pixelCount header - place .pixel) * wanted
+  unfolding reading
+  reading-size zero place = zero-le
+  reading-size (suc n) place = go (reading-size n) (move way header wanted message place) (moved place)
+    where
+      go :
+        ((next : Place) → length (reading way header wanted message n next .bytes) ≤ (pixelCount header - next .pixel) * wanted)
+        → (m : Move) → Moved place m
+        → length (readOn (reading way header wanted message n) m .bytes) ≤ (pixelCount header - place .pixel) * wanted
+      go ih m (at-end answer) = zero-le
+      go ih m (by-chunk k once missing) =
+          simp length-append
+          (rw (missing-split place k (omega arith), add-mul)
+          (omega (arith, chunk-size place k, ih (placeAfter way header wanted message place k))))

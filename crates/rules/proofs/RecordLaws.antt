@@ -1,0 +1,165 @@
+-- Laws of the record: reading what was written gives the same state, and a record is 277 to 290 bytes.
+-- Assumes nothing.
+use mathlib.Core.Path.{_≡_, refl, sym, _∙_, ap, ap₂, subst}
+use mathlib.Core.Bool.{Bool, true, false, cond, not, _&&_, _||_}
+use mathlib.Core.List.{List, [], _∷_, _++_, append-assoc, append-nil}
+use Prim.Native.Nat.{ℕ, zero, suc, _+_, _-_, _*_, _^_, _≤_, _<_}
+use native.Mathlib.Omega.{arith}
+use borrow.Author.Tests.{eqb-true, eq-eqb, ne-eqb, le-ltb, lt-ltb}
+use lib.Dec.{T, eqb, ltb, leb, leb→le, eqb→eq}
+use lib.ListN.{length, getD, drop, take, length-append, length-drop}
+use lib.Seq.{drop-at, drop-length}
+use Rattle.pixel.specs.declared.Pixel.{Pixel}
+use Rattle.pixel.specs.declared.types.ChannelsRead.{ChannelsRead}
+use Rattle.pixel.specs.declared.types.ChannelsRead.the-variants as channels-read
+use Rattle.pixel.specs.declared.types.Channels.{Channels}
+use Rattle.pixel.specs.declared.types.Channels.the-variants.{Rgb, Rgba}
+use Rattle.pixel.specs.Colour.{clearPixel, alpha}
+use Rattle.pixel.specs.Types.{channelsNumber, channelsFrom}
+use Rattle.number.specs.declared.NumberRead.the-variants as number-read
+use Rattle.number.specs.Seven.{sevenBits, readNumber}
+use Rattle.header.specs.declared.Header.{Header}
+use Rattle.header.specs.declared.HeaderRead.the-variants as header-read
+use Rattle.header.specs.Header.{headerBytes, headerOf, dimensionsFit, pixelCount}
+use Rattle.number.proofs.Laws.{read-written, rest-after-written, length-at-least-one, length-at-most-ten, length-one, length-at-most-five}
+use Rattle.header.proofs.Laws.{header-read-back, header-length}
+use Rattle.rules.specs.Reading.{Place}
+use Rattle.rules.specs.Step.{State, Typed, headerPasses, wantedPasses, atPasses, pixelPasses, alphaPasses, wellFormed, Started, started, notStarted}
+use Rattle.rules.specs.Record.{pixelsBytes, recordBytes, readPixel, readPixels, withNumber, readEnd, readSlots, readPositions, readWanted, readRecord}
+
+both : (a b : Bool) → T (a && b) → T a × T b
+both true b t = (tt, t)
+both false b t = absurd t
+
+-- a list of four is read back as a pixel, whatever follows
+four-read : (bytes rest : List ℕ) → length bytes ≡ 4 → readPixel (bytes ++ rest) ≡ record { rgba = bytes }
+unfolding readPixel
+four-read [] rest e = absurd (omega (arith, e))
+four-read (a ∷ []) rest e = absurd (omega (arith, e))
+four-read (a ∷ b ∷ []) rest e = absurd (omega (arith, e))
+four-read (a ∷ b ∷ c ∷ []) rest e = absurd (omega (arith, e))
+four-read (a ∷ b ∷ c ∷ d ∷ []) rest e = refl
+four-read (a ∷ b ∷ c ∷ d ∷ x ∷ xs) rest e = absurd (omega (arith, e))
+
+-- each of some pixels has four bytes
+abbrev Fours : List Pixel → Type 0
+Fours ps = (i : ℕ) → i < length ps → length (getD ps i clearPixel .rgba) ≡ 4
+
+pixels-length : (ps : List Pixel) → Fours ps → length (pixelsBytes ps) ≡ 4 * length ps
+unfolding pixelsBytes
+pixels-length [] each = refl
+pixels-length (p ∷ ps) each =
+    simp length-append (omega (arith, each 0 (omega arith), pixels-length ps (λ i h. each (suc i) (omega arith))))
+
+pixels-read : (ps : List Pixel) (rest : List ℕ) → Fours ps → readPixels (length ps) (pixelsBytes ps ++ rest) ≡ ps
+unfolding readPixels pixelsBytes
+pixels-read [] rest each = refl
+pixels-read (p ∷ ps) rest each =
+    let is : length (p .rgba) ≡ 4 = each 0 (omega arith) in
+    rw append-assoc
+    (ap₂ _∷_ (four-read (p .rgba) (pixelsBytes ps ++ rest) is)
+    (ap (readPixels (length ps)) (drop-at (p .rgba) (pixelsBytes ps ++ rest) 4 is)
+    ∙ pixels-read ps rest (λ i h. each (suc i) (omega arith))))
+
+true-of : (b : Bool) → T b → b ≡ true
+true-of true t = refl
+true-of false t = absurd t
+
+-- the tests of being well formed, one by one
+pub record Formed (s : State) : Type 0 where
+  pub header-passes : T (headerPasses s)
+  pub wanted-passes : T (wantedPasses s)
+  pub at-passes : T (atPasses s)
+  pub pixel-passes : T (pixelPasses s)
+  pub alpha-passes : T (alphaPasses s)
+
+pub formed : (s : State) → T (wellFormed s) → Formed s
+unfolding wellFormed
+formed s t =
+    let second = both (headerPasses s) _ t .1 in
+    let third = both (wantedPasses s) _ second .1 in
+    let fourth = both (atPasses s) _ third .1 in
+    record {
+      header-passes = both (headerPasses s) _ t .0;
+      wanted-passes = both (wantedPasses s) _ second .0;
+      at-passes = both (atPasses s) _ third .0;
+      pixel-passes = both (pixelPasses s) _ fourth .0;
+      alpha-passes = both (pixelPasses s) _ fourth .1
+    }
+
+-- wanted 3 or 4 is a channel count, and its number is wanted again
+wanted-channels : (wanted : ℕ) → T (eqb wanted 3 || eqb wanted 4) → (c : Channels) × (channelsFrom wanted ≡ channels-read.Ok c) × (channelsNumber c ≡ wanted)
+wanted-channels wanted t = go (eqb wanted 3) refl (eqb wanted 4) refl t
+  where
+    go :
+      (three : Bool) → eqb wanted 3 ≡ three → (four : Bool) → eqb wanted 4 ≡ four → T (three || four)
+      → (c : Channels) × (channelsFrom wanted ≡ channels-read.Ok c) × (channelsNumber c ≡ wanted)
+    go true e four f t = (Rgb, rw e, sym (eqb-true _ _ e))
+    go false e true f t = (Rgba, rw (e, f), sym (eqb-true _ _ f))
+    go false e false f t = absurd t
+
+channels-small : (c : Channels) → channelsNumber c ≤ 4
+channels-small Rgb = omega arith
+channels-small Rgba = omega arith
+
+pixels-small : (h : Header) → T (dimensionsFit (h .width) (h .height)) → pixelCount h ≤ 400000000
+pixels-small h t = leb→le (pixelCount h) 400000000 (both (leb 1 (pixelCount h)) _ t .1)
+
+module _ (s : State) (typed : Typed s) (well : T (wellFormed s)) where
+  pixel-small : s .place .pixel < 2 ^ 35
+  pixel-small =
+      omega
+      (arith, leb→le (s .place .pixel) (pixelCount (s .header)) (formed s well .pixel-passes), pixels-small (s .header) (formed s well .header-passes))
+
+  wanted-small : s .wanted < 128
+  wanted-small =
+      let count = wanted-channels (s .wanted) (formed s well .wanted-passes) in
+      omega (arith, count .2, channels-small (count .0))
+
+  fours : Fours (s .place .slots)
+  fours i h = typed .slot-is i (omega (arith, typed .slots-are))
+
+  slots-length : length (s .place .current .rgba ++ pixelsBytes (s .place .slots)) ≡ 260
+  slots-length =
+      simp length-append
+      (omega (arith, typed .current-is, typed .slots-are, pixels-length (s .place .slots) fours))
+
+  slots-back : readPixels 64 (drop 4 (s .place .current .rgba ++ pixelsBytes (s .place .slots))) ≡ s .place .slots
+  slots-back =
+      rw (drop-at (s .place .current .rgba) (pixelsBytes (s .place .slots)) 4 (typed .current-is), ← typed .slots-are, ← append-nil (pixelsBytes (s .place .slots)))
+      (pixels-read (s .place .slots) [] fours)
+
+  none-left : length (drop 260 (s .place .current .rgba ++ pixelsBytes (s .place .slots))) ≡ 0
+  none-left = simp length-drop (omega (arith, slots-length))
+
+  -- the current pixel and the slots are read back
+  slots-read :
+    readSlots (s .header) (s .wanted) (s .place .at) (s .place .pixel)
+    (s .place .current .rgba ++ pixelsBytes (s .place .slots)) ≡ started s
+  unfolding readSlots readEnd
+  slots-read =
+      rw (le-ltb (length (s .place .current .rgba ++ pixelsBytes (s .place .slots))) 260 (omega (arith, slots-length)), four-read (s .place .current .rgba) (pixelsBytes (s .place .slots)) (typed .current-is), slots-back, none-left, true-of (wellFormed s) well)
+
+  -- the positions after wanted are read back
+  positions-read : (c : Channels) → channelsNumber c ≡ s .wanted →
+    readPositions (s .header) (channels-read.Ok c)
+    (sevenBits (s .place .at) ++ (sevenBits (s .place .pixel) ++ (s .place .current .rgba ++ pixelsBytes (s .place .slots)))) ≡ started s
+  unfolding readPositions withNumber
+  positions-read c same =
+      rw (read-written (s .place .at) _ (typed .at-fits), rest-after-written (s .place .at), read-written (s .place .pixel) _ (omega (arith, pixel-small)), rest-after-written (s .place .pixel), same)
+      slots-read
+
+  -- reading a written record gives the same state
+  pub record-read-back : readRecord (recordBytes s) ≡ started s
+  unfolding readRecord recordBytes readWanted withNumber
+  record-read-back =
+      let count = wanted-channels (s .wanted) (formed s well .wanted-passes) in
+      rw (header-read-back (s .header) _ (typed .width-fits) (typed .height-fits) (formed s well .header-passes), drop-at (headerBytes (s .header)) _ 14 (header-length (s .header)), read-written (s .wanted) _ (omega (arith, wanted-small)), rest-after-written (s .wanted), count .1)
+      (positions-read (count .0) (count .2))
+
+  -- a record is 277 to 290 bytes
+  pub record-length : (277 ≤ length (recordBytes s)) × (length (recordBytes s) ≤ 290)
+  unfolding recordBytes
+  record-length =
+      simp (length-append, header-length (s .header))
+      (omega (arith, simp length-append at slots-length, length-one (s .wanted) wanted-small, length-at-least-one (s .place .at), length-at-most-ten (s .place .at), length-at-least-one (s .place .pixel), length-at-most-five (s .place .pixel) pixel-small))
