@@ -1,8 +1,7 @@
 // Numbers in groups of seven bits, low group first: what records are written in.
 ghost use mathlib.Core.Path.{_≡_};
-ghost use mathlib.Core.List.{_++_};
 ghost use Prim.Native.Nat.{_≤_};
-ghost use lib.ListN.{length, drop};
+ghost use lib.ListN.{length};
 ghost use Rattle.number.specs.Seven.{sevenBits, readNumber, readMore, writtenNumber, writingNumber, groupBelow};
 ghost use Rattle.number.specs.Inner.{GroupFits};
 use pixel::error::Error;

@@ -13,6 +13,9 @@ pub const QOI_OP_RGB: u8 = 0xfe;
 
 pub const QOI_OP_RGBA: u8 = 0xff;
 
+// The two high bits, by which the first four are told apart.
+pub const QOI_MASK_2: u8 = 0xc0;
+
 pub const QOI_HEADER_SIZE: usize = 14;
 
 pub const QOI_PADDING: [u8; 8] = [0, 0, 0, 0, 0, 0, 0, 1];

@@ -48,8 +48,8 @@ module _ (way : Way) (header : Header) (wanted : ℕ) (message : List ℕ) where
   -- the two kinds of move: by a chunk that brings a pixel where one is missing, and the end
   pub data Moved (place : Place) : Move → Type 0 where
     by-chunk :
-      (k : Chunk) → 1 ≤ timesOf k → place .pixel < pixelCount header
-      → Moved place (more (placeAfter way header wanted message place k) (bytesOf way header wanted message place k))
+        (k : Chunk) → 1 ≤ timesOf k → place .pixel < pixelCount header
+        → Moved place (more (placeAfter way header wanted message place k) (bytesOf way header wanted message place k))
     at-end : (answer : Answer) → Moved place (end answer)
 
   moved-by : (place : Place) → place .pixel < pixelCount header → (f : Found) → Brings f → Moved place (moveBy way header wanted message place f)
@@ -63,44 +63,45 @@ module _ (way : Way) (header : Header) (wanted : ℕ) (message : List ℕ) where
     where
       found : Found
       found = chunkAt (way .readsRgba (channelsNumber (header .channels))) (drop (place .at) message)
+
       go :
-        (b : Bool) → ltb (place .pixel) (pixelCount header) ≡ b
-        → Moved place (cond b (moveBy way header wanted message place found) (end (closing (sizeWanted way header wanted message) message (place .at))))
+          (b : Bool) → ltb (place .pixel) (pixelCount header) ≡ b
+          → Moved place (cond b (moveBy way header wanted message place found) (end (closing (sizeWanted way header wanted message) message (place .at))))
       go true e = moved-by place (ltb-true _ _ e) found (chunk-brings _ _)
       go false e = at-end _
 
   -- with no pixel missing a move is the marker test
   pub moved-last :
-    (place : Place) → pixelCount header ≤ place .pixel
-    → move way header wanted message place ≡ end (closing (sizeWanted way header wanted message) message (place .at))
+      (place : Place) → pixelCount header ≤ place .pixel
+      → move way header wanted message place ≡ end (closing (sizeWanted way header wanted message) message (place .at))
   unfolding move
   moved-last place none = rw (le-ltb (place .pixel) (pixelCount header) none)
 
   -- a chunk that brings a pixel moves the pixel position on, and never past the picture
   pub advances :
-    (place : Place) (k : Chunk) → 1 ≤ timesOf k → place .pixel < pixelCount header
-    → place .pixel < placeAfter way header wanted message place k .pixel
+      (place : Place) (k : Chunk) → 1 ≤ timesOf k → place .pixel < pixelCount header
+      → place .pixel < placeAfter way header wanted message place k .pixel
   unfolding placeAfter pixelsBrought
   advances place k once missing = omega arith
 
   pub stays-within :
-    (place : Place) (k : Chunk) → place .pixel ≤ pixelCount header
-    → placeAfter way header wanted message place k .pixel ≤ pixelCount header
+      (place : Place) (k : Chunk) → place .pixel ≤ pixelCount header
+      → placeAfter way header wanted message place k .pixel ≤ pixelCount header
   unfolding placeAfter pixelsBrought
   stays-within place k within = omega arith
 
   -- the end comes within the pixels missing plus one moves, and is the reading's
   pub reading-ends :
-    (n : ℕ) (place : Place) → pixelCount header ≤ place .pixel + n
-    → played way header wanted message (suc n) place ≡ ended (reading way header wanted message n place)
+      (n : ℕ) (place : Place) → pixelCount header ≤ place .pixel + n
+      → played way header wanted message (suc n) place ≡ ended (reading way header wanted message n place)
   unfolding played reading
   reading-ends zero place none = rw (played, moved-last place (omega arith))
   reading-ends (suc n) place few = go (reading-ends n) (move way header wanted message place) (moved place)
     where
       go :
-        ((next : Place) → pixelCount header ≤ next .pixel + n → played way header wanted message (suc n) next ≡ ended (reading way header wanted message n next))
-        → (m : Move) → Moved place m
-        → playOn (played way header wanted message (suc n)) m ≡ ended (readOn (reading way header wanted message n) m)
+          ((next : Place) → pixelCount header ≤ next .pixel + n → played way header wanted message (suc n) next ≡ ended (reading way header wanted message n next))
+          → (m : Move) → Moved place m
+          → playOn (played way header wanted message (suc n)) m ≡ ended (readOn (reading way header wanted message n) m)
       go ih m (at-end answer) = refl
       go ih m (by-chunk k once missing) =
           ap (playedAfter _)
@@ -108,32 +109,32 @@ module _ (way : Way) (header : Header) (wanted : ℕ) (message : List ℕ) where
 
   -- a chunk writes at most its pixels
   chunk-size :
-    (place : Place) (k : Chunk)
-    → length (bytesOf way header wanted message place k) ≤ pixelsBrought way header wanted message place k * wanted
+      (place : Place) (k : Chunk)
+      → length (bytesOf way header wanted message place k) ≤ pixelsBrought way header wanted message place k * wanted
   unfolding bytesOf
   chunk-size place k =
       repeated-size (pixelsBrought way header wanted message place k) (take wanted (pixelAfter way header wanted message place k .rgba))
       (simp length-take (omega arith))
 
   missing-split :
-    (place : Place) (k : Chunk) → place .pixel ≤ pixelCount header
-    → pixelCount header - place .pixel
+      (place : Place) (k : Chunk) → place .pixel ≤ pixelCount header
+      → pixelCount header - place .pixel
       ≡ pixelsBrought way header wanted message place k + (pixelCount header - placeAfter way header wanted message place k .pixel)
   unfolding placeAfter pixelsBrought
   missing-split place k within = omega arith
 
   -- a reading never writes more bytes than the pixels missing times wanted
   pub reading-size :
-    (n : ℕ) (place : Place)
-    → length (reading way header wanted message n place .bytes) ≤ (pixelCount header - place .pixel) * wanted
+      (n : ℕ) (place : Place)
+      → length (reading way header wanted message n place .bytes) ≤ (pixelCount header - place .pixel) * wanted
   unfolding reading
   reading-size zero place = zero-le
   reading-size (suc n) place = go (reading-size n) (move way header wanted message place) (moved place)
     where
       go :
-        ((next : Place) → length (reading way header wanted message n next .bytes) ≤ (pixelCount header - next .pixel) * wanted)
-        → (m : Move) → Moved place m
-        → length (readOn (reading way header wanted message n) m .bytes) ≤ (pixelCount header - place .pixel) * wanted
+          ((next : Place) → length (reading way header wanted message n next .bytes) ≤ (pixelCount header - next .pixel) * wanted)
+          → (m : Move) → Moved place m
+          → length (readOn (reading way header wanted message n) m .bytes) ≤ (pixelCount header - place .pixel) * wanted
       go ih m (at-end answer) = zero-le
       go ih m (by-chunk k once missing) =
           simp length-append

@@ -84,7 +84,7 @@ formed s t =
       wanted-passes = both (wantedPasses s) _ second .0;
       at-passes = both (atPasses s) _ third .0;
       pixel-passes = both (pixelPasses s) _ fourth .0;
-      alpha-passes = both (pixelPasses s) _ fourth .1
+      alpha-passes = both (pixelPasses s) _ fourth .1;
     }
 
 -- wanted 3 or 4 is a channel count, and its number is wanted again
@@ -92,8 +92,8 @@ wanted-channels : (wanted : ℕ) → T (eqb wanted 3 || eqb wanted 4) → (c : C
 wanted-channels wanted t = go (eqb wanted 3) refl (eqb wanted 4) refl t
   where
     go :
-      (three : Bool) → eqb wanted 3 ≡ three → (four : Bool) → eqb wanted 4 ≡ four → T (three || four)
-      → (c : Channels) × (channelsFrom wanted ≡ channels-read.Ok c) × (channelsNumber c ≡ wanted)
+        (three : Bool) → eqb wanted 3 ≡ three → (four : Bool) → eqb wanted 4 ≡ four → T (three || four)
+        → (c : Channels) × (channelsFrom wanted ≡ channels-read.Ok c) × (channelsNumber c ≡ wanted)
     go true e four f t = (Rgb, rw e, sym (eqb-true _ _ e))
     go false e true f t = (Rgba, rw (e, f), sym (eqb-true _ _ f))
     go false e false f t = absurd t
@@ -134,16 +134,16 @@ module _ (s : State) (typed : Typed s) (well : T (wellFormed s)) where
 
   -- the current pixel and the slots are read back
   slots-read :
-    readSlots (s .header) (s .wanted) (s .place .at) (s .place .pixel)
-    (s .place .current .rgba ++ pixelsBytes (s .place .slots)) ≡ started s
+      readSlots (s .header) (s .wanted) (s .place .at) (s .place .pixel)
+      (s .place .current .rgba ++ pixelsBytes (s .place .slots)) ≡ started s
   unfolding readSlots readEnd
   slots-read =
       rw (le-ltb (length (s .place .current .rgba ++ pixelsBytes (s .place .slots))) 260 (omega (arith, slots-length)), four-read (s .place .current .rgba) (pixelsBytes (s .place .slots)) (typed .current-is), slots-back, none-left, true-of (wellFormed s) well)
 
   -- the positions after wanted are read back
   positions-read : (c : Channels) → channelsNumber c ≡ s .wanted →
-    readPositions (s .header) (channels-read.Ok c)
-    (sevenBits (s .place .at) ++ (sevenBits (s .place .pixel) ++ (s .place .current .rgba ++ pixelsBytes (s .place .slots)))) ≡ started s
+      readPositions (s .header) (channels-read.Ok c)
+      (sevenBits (s .place .at) ++ (sevenBits (s .place .pixel) ++ (s .place .current .rgba ++ pixelsBytes (s .place .slots)))) ≡ started s
   unfolding readPositions withNumber
   positions-read c same =
       rw (read-written (s .place .at) _ (typed .at-fits), rest-after-written (s .place .at), read-written (s .place .pixel) _ (omega (arith, pixel-small)), rest-after-written (s .place .pixel), same)

@@ -112,12 +112,12 @@ proved =
     ∷ encodes 63 1 Rgb (replicate 189 0) (0xfd ∷ 0xc0 ∷ [])
     ∷ encodes 62 1 Rgb (replicate 186 0) (0xfd ∷ [])
     ∷ encodes 5 1 Rgb (100 ∷ 0 ∷ 0 ∷ 0 ∷ 0 ∷ 0 ∷ 100 ∷ 0 ∷ 0 ∷ 100 ∷ 0 ∷ 0 ∷ 0 ∷ 0 ∷ 0 ∷ [])
-      (0xfe ∷ 0x64 ∷ 0x00 ∷ 0x00 ∷ 0xfe ∷ 0x00 ∷ 0x00 ∷ 0x00 ∷ 0x21 ∷ 0x21 ∷ 0x35 ∷ [])
+    (0xfe ∷ 0x64 ∷ 0x00 ∷ 0x00 ∷ 0xfe ∷ 0x00 ∷ 0x00 ∷ 0x00 ∷ 0x21 ∷ 0x21 ∷ 0x35 ∷ [])
     ∷ reads 2 1 Rgba 4 (0xc0 ∷ 0x35 ∷ []) (0 ∷ 0 ∷ 0 ∷ 255 ∷ 0 ∷ 0 ∷ 0 ∷ 0 ∷ []) (0 ∷ 0 ∷ 0 ∷ 255 ∷ 0 ∷ 0 ∷ 0 ∷ 255 ∷ [])
     ∷ reads 3 1 Rgba 3
-      (0xff ∷ 0x0a ∷ 0x00 ∷ 0x00 ∷ 0x80 ∷ 0xff ∷ 0x00 ∷ 0x00 ∷ 0x00 ∷ 0xff ∷ 0x1e ∷ [])
-      (10 ∷ 0 ∷ 0 ∷ 0 ∷ 0 ∷ 0 ∷ 0 ∷ 0 ∷ 0 ∷ [])
-      (10 ∷ 0 ∷ 0 ∷ 0 ∷ 0 ∷ 0 ∷ 10 ∷ 0 ∷ 0 ∷ [])
+    (0xff ∷ 0x0a ∷ 0x00 ∷ 0x00 ∷ 0x80 ∷ 0xff ∷ 0x00 ∷ 0x00 ∷ 0x00 ∷ 0xff ∷ 0x1e ∷ [])
+    (10 ∷ 0 ∷ 0 ∷ 0 ∷ 0 ∷ 0 ∷ 0 ∷ 0 ∷ 0 ∷ [])
+    (10 ∷ 0 ∷ 0 ∷ 0 ∷ 0 ∷ 0 ∷ 10 ∷ 0 ∷ 0 ∷ [])
     ∷ decodes 1 1 Rgb 4 (0x05 ∷ marker) (0 ∷ 4 ∷ 23 ∷ 0 ∷ 0 ∷ []) (0 ∷ 0 ∷ 0 ∷ 0 ∷ [])
     ∷ counts 300 (0xac ∷ 0x02 ∷ [])
     ∷ []
@@ -138,8 +138,8 @@ compared =
     ∷ opens (0 ∷ 0 ∷ 0 ∷ 0 ∷ 0 ∷ 0 ∷ 0 ∷ 1 ∷ 0 ∷ 0 ∷ 0 ∷ 1 ∷ 5 ∷ 0 ∷ []) (2 ∷ 5 ∷ 0 ∷ 0 ∷ 0 ∷ [])
     ∷ opens (0 ∷ 0 ∷ 0 ∷ 0 ∷ 0 ∷ 0 ∷ 0 ∷ 0 ∷ 0 ∷ 0 ∷ 0 ∷ 1 ∷ 3 ∷ 0 ∷ []) (4 ∷ 0 ∷ 0 ∷ 0 ∷ 0 ∷ [])
     ∷ checks 5 1 Rgb
-      (0xfe ∷ 0x64 ∷ 0x00 ∷ 0x00 ∷ 0xfe ∷ 0x00 ∷ 0x00 ∷ 0x00 ∷ 0x21 ∷ 0x21 ∷ 0x35 ∷ marker)
-      (0 ∷ 5 ∷ 33 ∷ 0 ∷ 0 ∷ [])
+    (0xfe ∷ 0x64 ∷ 0x00 ∷ 0x00 ∷ 0xfe ∷ 0x00 ∷ 0x00 ∷ 0x00 ∷ 0x21 ∷ 0x21 ∷ 0x35 ∷ marker)
+    (0 ∷ 5 ∷ 33 ∷ 0 ∷ 0 ∷ [])
     ∷ []
 
 -- ways to get it wrong, where no row above shows them
@@ -152,9 +152,9 @@ mistaken =
     ∷ decodes 2 1 Rgb 3 (0xff ∷ 1 ∷ 2 ∷ 3 ∷ 4 ∷ 0xc0 ∷ marker) (8 ∷ 0 ∷ 0 ∷ 0 ∷ 0 ∷ []) (0 ∷ 0 ∷ 0 ∷ 0 ∷ 0 ∷ 0 ∷ [])
     ∷ checks 2 1 Rgb (0xff ∷ 1 ∷ 2 ∷ 3 ∷ 4 ∷ 0xc0 ∷ marker) (8 ∷ 0 ∷ 0 ∷ 0 ∷ 0 ∷ [])
     ∷ decodes 4 1 Rgb 4 (0x05 ∷ 0x7a ∷ 0xfe ∷ 9 ∷ 9 ∷ 9 ∷ 0x03 ∷ marker) (0 ∷ 16 ∷ 29 ∷ 0 ∷ 0 ∷ [])
-      (0 ∷ 0 ∷ 0 ∷ 0 ∷ 1 ∷ 0 ∷ 0 ∷ 0 ∷ 9 ∷ 9 ∷ 9 ∷ 0 ∷ 1 ∷ 0 ∷ 0 ∷ 0 ∷ [])
+    (0 ∷ 0 ∷ 0 ∷ 0 ∷ 1 ∷ 0 ∷ 0 ∷ 0 ∷ 9 ∷ 9 ∷ 9 ∷ 0 ∷ 1 ∷ 0 ∷ 0 ∷ 0 ∷ [])
     ∷ takesUp 5 1 Rgb 3 (0xfe ∷ 0x64 ∷ 0x00 ∷ 0x00 ∷ 0xfe ∷ 0x00 ∷ 0x00 ∷ 0x00 ∷ 0x21 ∷ 0x21 ∷ 0x35 ∷ []) 2 0xee
-      (100 ∷ 0 ∷ 0 ∷ 0 ∷ 0 ∷ 0 ∷ 100 ∷ 0 ∷ 0 ∷ 100 ∷ 0 ∷ 0 ∷ 0 ∷ 0 ∷ 0 ∷ [])
+    (100 ∷ 0 ∷ 0 ∷ 0 ∷ 0 ∷ 0 ∷ 100 ∷ 0 ∷ 0 ∷ 100 ∷ 0 ∷ 0 ∷ 0 ∷ 0 ∷ 0 ∷ [])
     ∷ []
 
 -- what the notes on the Rust add: runs, the first slot, numbers that are not shortest or too large, bytes after the marker

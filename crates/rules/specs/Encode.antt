@@ -97,7 +97,7 @@ penAfter pen last p =
       slots = pen .slots;
       previous = pen .previous;
       run = cond (runWritten pen last) 0 (pen .run + 1);
-      differed = pen .differed
+      differed = pen .differed;
     })
     (record { slots = set (pen .slots) (slotOf p) p; previous = p; run = 0; differed = true })
 

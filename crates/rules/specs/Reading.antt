@@ -120,7 +120,7 @@ module _ (way : Way) (header : Header) (wanted : ℕ) (message : List ℕ) where
         at = place .at + sizeOf k;
         pixel = place .pixel + pixelsBrought place k;
         current = pixelAfter place k;
-        slots = cond (way .stores k) (set (place .slots) (slotOf (pixelAfter place k)) (pixelAfter place k)) (place .slots)
+        slots = cond (way .stores k) (set (place .slots) (slotOf (pixelAfter place k)) (pixelAfter place k)) (place .slots);
       }
 
   -- the bytes that a chunk writes

@@ -84,8 +84,8 @@ readSlots header wanted at pixel bytes =
         at = at;
         pixel = pixel;
         current = readPixel bytes;
-        slots = readPixels 64 (drop 4 bytes)
-      }
+        slots = readPixels 64 (drop 4 bytes);
+      };
     })
     (length (drop 260 bytes)))
 

@@ -90,8 +90,7 @@ unfolding writingNumber writtenNumber
 returns-2 c =
     let a = c .before .before .before .before .before .args in
     let l = c .before .loop in
-    let room : length (sevenBits (a .value)) ≤ length (a .out .now) = omega arith in
-    (
+    let room : length (sevenBits (a .value)) ≤ length (a .out .now) = omega arith in (
       rw (le-leb _ _ room) (ap {B = NumberWritten} written.Done (omega arith)),
       rw (le-leb _ _ room) (filled-last (l .out) (l .at) (l .left) (omega arith) (slice-write-out-2 c) ∙ l .inv .3),
     )

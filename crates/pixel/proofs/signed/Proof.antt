@@ -1,3 +1,5 @@
+-- `pixel::signed` meets its contract: below 128 the number is itself, above it is what its complement is short of.
+-- Assumes nothing.
 use Prim.Native.Nat.{_-_}
 use mathlib.Core.Path.{_≡_, ap}
 use native.Mathlib.Omega.{arith}
@@ -6,26 +8,19 @@ use borrow.Author.Needs.{needs}
 use borrow.Author.Tests.{lt-ltb, le-ltb}
 use Rattle.pixel.proofs.signed.Statement.{statement}
 use Rattle.pixel.proofs.signed.Tie as tie
-use Rattle.pixel.proofs.signed.Reads as reads
-use Rattle.pixel.proofs.signed.Lts as lts
 
--- src/lib.rt:105:9
 cast-result : tie.Need-cast-result
 cast-result c = search needs
 
--- src/lib.rt:107:18
 sub-y : tie.Need-sub-y
 sub-y c = search needs
 
--- src/lib.rt:107:17
 cast-y : tie.Need-cast-y
 cast-y c = search needs
 
--- src/lib.rt:101:1
 returns : tie.Need-returns
 returns c = rw (lt-ltb _ _ (c .if1 .taken))
 
--- src/lib.rt:101:1
 returns-2 : tie.Need-returns-2
 returns-2 c =
     let x = c .before .args .x in

@@ -1,122 +1,93 @@
+-- `pixel::error::Error::figures` meets its contract: each arm's case gives the figures that the definition gives.
+-- Assumes nothing.
 use borrow.Author.Needs.{needs}
 use Rattle.pixel.proofs.error.Error.figures.Statement.{statement}
 use Rattle.pixel.proofs.error.Error.figures.Tie as tie
-use Rattle.pixel.proofs.error.Error.figures.Reads as reads
-use Rattle.pixel.proofs.error.Error.figures.Lts as lts
 
--- src/error.rt:55:43
 enum-told : tie.Need-enum-told
 enum-told c = search needs
 
--- src/error.rt:56:38
 enum-known-self : tie.Need-enum-known-self
 enum-known-self c = search needs
 
--- src/error.rt:56:53
 cast-t13 : tie.Need-cast-t13
 cast-t13 c = search needs
 
--- src/error.rt:57:40
 enum-known-self-2 : tie.Need-enum-known-self-2
 enum-known-self-2 c = search needs
 
--- src/error.rt:57:57
 cast-t14 : tie.Need-cast-t14
 cast-t14 c = search needs
 
--- src/error.rt:58:35
 enum-known-self-3 : tie.Need-enum-known-self-3
 enum-known-self-3 c = search needs
 
--- src/error.rt:58:47
 cast-t15 : tie.Need-cast-t15
 cast-t15 c = search needs
 
--- src/error.rt:59:45
 enum-known-self-4 : tie.Need-enum-known-self-4
 enum-known-self-4 c = search needs
 
--- src/error.rt:59:65
 cast-t16 : tie.Need-cast-t16
 cast-t16 c = search needs
 
--- src/error.rt:59:79
 cast-t17 : tie.Need-cast-t17
 cast-t17 c = search needs
 
--- src/error.rt:60:41
 enum-known-self-5 : tie.Need-enum-known-self-5
 enum-known-self-5 c = search needs
 
--- src/error.rt:60:80
 cast-t19 : tie.Need-cast-t19
 cast-t19 c = search needs
 
--- src/error.rt:60:94
 cast-t20 : tie.Need-cast-t20
 cast-t20 c = search needs
 
--- src/error.rt:61:43
 enum-known-self-6 : tie.Need-enum-known-self-6
 enum-known-self-6 c = search needs
 
--- src/error.rt:62:38
 enum-told-2 : tie.Need-enum-told-2
 enum-told-2 c = search needs
 
--- src/error.rt:63:32
 enum-told-3 : tie.Need-enum-told-3
 enum-told-3 c = search needs
 
--- src/error.rt:64:36
 enum-told-4 : tie.Need-enum-told-4
 enum-told-4 c = search needs
 
--- src/error.rt:65:40
 enum-told-5 : tie.Need-enum-told-5
 enum-told-5 c = search needs
 
--- src/error.rt:51:5
 returns : tie.Need-returns
 returns c = search needs
 
--- src/error.rt:51:5
 returns-2 : tie.Need-returns-2
 returns-2 c = rw (c .before .self .given .1)
 
--- src/error.rt:51:5
 returns-3 : tie.Need-returns-3
 returns-3 c = rw (c .before .self2 .given .1)
 
--- src/error.rt:51:5
 returns-4 : tie.Need-returns-4
 returns-4 c = rw (c .before .self3 .given .1)
 
--- src/error.rt:51:5
 returns-5 : tie.Need-returns-5
 returns-5 c = rw (c .before .self4 .given .1)
 
--- src/error.rt:51:5
 returns-6 : tie.Need-returns-6
 returns-6 c = rw (c .before .self5 .given .1)
 
--- src/error.rt:51:5
 returns-7 : tie.Need-returns-7
 returns-7 c = rw (c .before .self6 .given .1)
 
--- src/error.rt:51:5
 returns-8 : tie.Need-returns-8
 returns-8 c = search needs
 
--- src/error.rt:51:5
 returns-9 : tie.Need-returns-9
 returns-9 c = search needs
 
--- src/error.rt:51:5
 returns-10 : tie.Need-returns-10
 returns-10 c = search needs
 
--- src/error.rt:51:5
 returns-11 : tie.Need-returns-11
 returns-11 c = search needs
 

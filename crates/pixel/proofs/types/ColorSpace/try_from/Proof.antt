@@ -1,24 +1,19 @@
+-- `pixel::types::ColorSpace::try_from` meets its contract: the two tests pick the case that the definition picks.
+-- Assumes nothing.
 use borrow.Author.Needs.{needs}
 use borrow.Author.Tests.{eq-eqb, ne-eqb}
 use Rattle.pixel.proofs.types.ColorSpace.try_from.Statement.{statement}
 use Rattle.pixel.proofs.types.ColorSpace.try_from.Tie as tie
-use Rattle.pixel.proofs.types.ColorSpace.try_from.Reads as reads
-use Rattle.pixel.proofs.types.ColorSpace.try_from.Lts as lts
-use Rattle.pixel.proofs.types.capped.Reads as capped-reads
 
--- src/types.rt:126:13
 returns : tie.Need-returns
 returns c = simp (eq-eqb _ _ (c .if1 .taken))
 
--- src/types.rt:129:13
 returns-2 : tie.Need-returns-2
 returns-2 c = simp (ne-eqb _ _ (c .before .if1 .left), eq-eqb _ _ (c .if2 .taken))
 
--- src/types.rt:131:72
 capped-requires : tie.Need-capped-requires
 capped-requires c κs = search needs
 
--- src/types.rt:122:5
 returns-3 : tie.Need-returns-3
 returns-3 c =
     simp (ne-eqb _ _ (c .before .before .if1 .left), ne-eqb _ _ (c .before .if2 .left), c .capped .ensures)

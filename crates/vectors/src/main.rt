@@ -1,0 +1,73 @@
+// Replays what crate qoi 0.4.1 answered, as tools/record-vectors recorded it, and says for each group of cases how many the port answers the same.
+//
+// The list comes on standard input. A line is a case, and an empty line is none: empty lines fill the pages of 65,536 bytes,
+// so that no case lies in two.
+ghost use Prim.Native.Nat.{_≤_};
+ghost use lib.ListN.{length};
+use libc::STDIN_FILENO;
+use tally::Tally;
+
+mod case;
+mod groups;
+mod hex;
+mod tally;
+
+// Where the line that stands at a place ends.
+fn line_end(page: &[u8], start: usize) -> usize
+    requires { ⌜ start ≤ length (now page) ⌝ }
+    ensures { λ r. ⌜ start ≤ r ⌝ }
+    ensures { λ r. ⌜ r ≤ length (now (page .entry)) ⌝ }
+{
+    let mut i = start;
+    while i < page.len() {
+        if page[i] == b'\n' {
+            return i;
+        }
+        i += 1;
+    }
+    i
+}
+
+// The tally with the cases of a page.
+fn with_page(page: &[u8], before: Tally) -> Tally {
+    let mut tally = before;
+    let mut start = 0;
+    while start < page.len() {
+        let end = line_end(page, start);
+        if start < end {
+            tally = tally.with(page[start], case::agrees(&page[start..end]));
+        }
+        start = end + 1;
+    }
+    tally
+}
+
+struct Turn {
+    more: bool,
+    tally: Tally,
+}
+
+// Reads a page and replays it.
+fn next_page(before: Tally) -> Turn {
+    let mut page = io::large_buffer();
+    let n = io::read_full(STDIN_FILENO, &mut page);
+    Turn {
+        more: n == page.len(),
+        tally: with_page(&page[..n], before),
+    }
+}
+
+// A proved loop has to end, and nothing says that a list does: it is read for at most so many pages.
+fn main() {
+    let mut tally = Tally::new();
+    let mut pages: u32 = 0x1_0000;
+    while 0 < pages {
+        let t = next_page(tally);
+        tally = t.tally;
+        if !t.more {
+            break;
+        }
+        pages -= 1;
+    }
+    tally.report();
+}
