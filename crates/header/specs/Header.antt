@@ -78,10 +78,12 @@ headerOf bytes =
 abbrev pub defaultHeader : Header
 defaultHeader = record { width = 1; height = 1; channels = Rgb; colorspace = Srgb }
 
+-- other channels, all else kept
 abbrev pub withChannels : Header → Channels → Header
 withChannels h channels =
     record { width = h .width; height = h .height; channels = channels; colorspace = h .colorspace }
 
+-- another colour space, all else kept
 abbrev pub withColorSpace : Header → ColorSpace → Header
 withColorSpace h colorspace =
     record { width = h .width; height = h .height; channels = h .channels; colorspace = colorspace }

@@ -14,6 +14,9 @@ use pixel::types::ChannelsRead;
 use pixel::types::ColorSpace;
 use pixel::types::ColorSpaceRead;
 
+// A header as a message starts with it.
+pub type FourteenBytes = [u8; 14];
+
 pub struct Header {
     pub width: u32,
     pub height: u32,
@@ -88,7 +91,7 @@ impl Header {
     }
 
     // The fourteen bytes.
-    pub fn encode(self) -> [u8; 14]
+    pub fn encode(self) -> FourteenBytes
         ensures { λ r. ⌜ r ≡ headerBytes self ⌝ }
     {
         let w = self.width;

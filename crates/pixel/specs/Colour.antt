@@ -1,6 +1,6 @@
 -- Pixels: their four bytes, the start pixel, the slot formula, and arithmetic on channels that wraps modulo 256.
-use mathlib.Core.Bool.{Bool, true, false, cond, _&&_}
-use mathlib.Core.List.{List, [], _∷_}
+use mathlib.Core.Bool.{Bool, cond, _&&_}
+use mathlib.Core.List.{[], _∷_}
 use Prim.Native.Nat.{ℕ, suc, _+_, _-_, _*_, _%_}
 use lib.Dec.{leb, ltb, eqb}
 use lib.IntN.{ℤ, pos, negsuc}
@@ -11,15 +11,19 @@ use Rattle.pixel.specs.declared.Pixel.{Pixel}
 abbrev pub pixelOf : ℕ → ℕ → ℕ → ℕ → Pixel
 pixelOf r g b a = record { rgba = r ∷ g ∷ b ∷ a ∷ [] }
 
+-- the first byte
 abbrev pub red : Pixel → ℕ
 red p = getD (p .rgba) 0 0
 
+-- the second
 abbrev pub green : Pixel → ℕ
 green p = getD (p .rgba) 1 0
 
+-- the third
 abbrev pub blue : Pixel → ℕ
 blue p = getD (p .rgba) 2 0
 
+-- the fourth
 abbrev pub alpha : Pixel → ℕ
 alpha p = getD (p .rgba) 3 0
 
@@ -43,10 +47,11 @@ slotOf p = (3 * red p + 5 * green p + 7 * blue p + 11 * alpha p) % 64
 abbrev pub samePixel : Pixel → Pixel → Bool
 samePixel p q = eqb (red p) (red q) && (eqb (green p) (green q) && (eqb (blue p) (blue q) && eqb (alpha p) (alpha q)))
 
--- channels add and differ modulo 256
+-- channels add modulo 256
 abbrev pub wrappedSum : ℕ → ℕ → ℕ
 wrappedSum a b = (a + b) % 256
 
+-- channels differ modulo 256
 abbrev pub wrappedDifference : ℕ → ℕ → ℕ
 wrappedDifference a b = (a + 256 - b) % 256
 

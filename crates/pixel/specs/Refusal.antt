@@ -50,6 +50,7 @@ refusalOf n f =
     (cond (eqb n 10) RunPastImage
     (cond (eqb n 11) BytesAfterMarker UnexpectedBufferEnd)))))))))
 
+-- a refusal is the one that its number and figures name
 named : (e : Error) → refusalOf (numberOf e) (figuresOf e) ≡ e
 named UnexpectedBufferEnd = refl
 named (InvalidChannels channels) = refl

@@ -22,10 +22,12 @@ abbrev pub colorSpaceNumber : ColorSpace → ℕ
 colorSpaceNumber Srgb = 0
 colorSpaceNumber Linear = 1
 
+-- whether there are three channels
 abbrev pub isRgb : Channels → Bool
 isRgb Rgb = true
 isRgb Rgba = false
 
+-- whether the colour space is sRGB
 abbrev pub isSrgb : ColorSpace → Bool
 isSrgb Srgb = true
 isSrgb Linear = false

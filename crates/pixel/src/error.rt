@@ -2,6 +2,9 @@
 ghost use mathlib.Core.Path.{_≡_};
 ghost use Rattle.pixel.specs.Refusal.{numberOf, figuresOf};
 
+// The figures of an answer, zeros after them.
+pub type FourFigures = [u64; 4];
+
 pub enum Error {
     // Input ended before what was to be read.
     UnexpectedBufferEnd,
@@ -74,7 +77,7 @@ impl Error {
     }
 
     // The figures in the table's order, zeros after them.
-    pub fn figures(self) -> [u64; 4]
+    pub fn figures(self) -> FourFigures
         ensures { λ r. ⌜ r ≡ figuresOf self ⌝ }
     {
         match self {

@@ -1,19 +1,19 @@
 -- Laws of a reading, over every way: each move brings a pixel, so the end comes within the pixels plus one moves, and no more is written than the picture.
 -- Assumes nothing.
-use mathlib.Core.Path.{_≡_, refl, sym, _∙_, ap, subst}
+use mathlib.Core.Path.{_≡_, refl, ap}
 use mathlib.Core.Bool.{Bool, true, false, cond}
-use mathlib.Core.List.{List, [], _∷_, _++_}
-use Prim.Native.Nat.{ℕ, zero, suc, _+_, _-_, _*_, _%_, _≤_, _<_, min, zero-le}
-use native.Mathlib.Nat.{le-trans, le-refl, add-mul, suc-mul, mul-le-mul-left, mul-le-mul-right, le-of-eq, min-le-right}
+use mathlib.Core.List.{List, [], _∷_}
+use Prim.Native.Nat.{ℕ, zero, suc, _+_, _-_, _*_, _≤_, _<_, zero-le}
+use native.Mathlib.Nat.{le-refl, add-mul, suc-mul}
 use native.Mathlib.Omega.{arith}
-use borrow.Author.Tests.{ltb-true, ltb-false, le-ltb, lt-ltb}
+use borrow.Author.Tests.{ltb-true, le-ltb}
 use lib.Dec.{ltb}
 use lib.ListN.{length, take, drop, length-append, length-take}
 use Rattle.header.specs.declared.Header.{Header}
 use Rattle.header.specs.Header.{pixelCount}
 use Rattle.pixel.specs.Types.{channelsNumber}
-use Rattle.rules.specs.Chunk.{Chunk, Found, cut, chunk, chunkFrom, chunkAt, timesOf, INDEX, DIFF, LUMA, RUN, RGB, RGBA, Stuck}
-use Rattle.rules.specs.Reading.{Way, Place, Answer, Move, more, end, Reading, Played, going, ended, silent, after, playedAfter, readOn, playOn, repeated, closing, sizeWanted, pixelsBrought, pixelAfter, placeAfter, bytesOf, moveBy, move, played, reading}
+use Rattle.rules.specs.Chunk.{Chunk, Found, cut, chunk, chunkFrom, chunkAt, timesOf, RUN}
+use Rattle.rules.specs.Reading.{Way, Place, Answer, Move, more, end, ended, playedAfter, readOn, playOn, repeated, closing, sizeWanted, pixelsBrought, pixelAfter, placeAfter, bytesOf, moveBy, move, played, reading}
 
 -- what holds of both holds of the one that a test picks
 cond-both : {A : Type 0} (P : A → Type 0) (b : Bool) {x y : A} → P x → P y → P (cond b x y)

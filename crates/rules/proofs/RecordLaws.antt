@@ -1,30 +1,26 @@
 -- Laws of the record: reading what was written gives the same state, and a record is 277 to 290 bytes.
 -- Assumes nothing.
-use mathlib.Core.Path.{_≡_, refl, sym, _∙_, ap, ap₂, subst}
-use mathlib.Core.Bool.{Bool, true, false, cond, not, _&&_, _||_}
+use mathlib.Core.Path.{_≡_, refl, sym, _∙_, ap, ap₂}
+use mathlib.Core.Bool.{Bool, true, false, _&&_, _||_}
 use mathlib.Core.List.{List, [], _∷_, _++_, append-assoc, append-nil}
-use Prim.Native.Nat.{ℕ, zero, suc, _+_, _-_, _*_, _^_, _≤_, _<_}
+use Prim.Native.Nat.{ℕ, suc, _*_, _^_, _≤_, _<_}
 use native.Mathlib.Omega.{arith}
-use borrow.Author.Tests.{eqb-true, eq-eqb, ne-eqb, le-ltb, lt-ltb}
-use lib.Dec.{T, eqb, ltb, leb, leb→le, eqb→eq}
-use lib.ListN.{length, getD, drop, take, length-append, length-drop}
-use lib.Seq.{drop-at, drop-length}
+use borrow.Author.Tests.{eqb-true, le-ltb}
+use lib.Dec.{T, eqb, leb, leb→le}
+use lib.ListN.{length, getD, drop, length-append, length-drop}
+use lib.Seq.{drop-at}
 use Rattle.pixel.specs.declared.Pixel.{Pixel}
-use Rattle.pixel.specs.declared.types.ChannelsRead.{ChannelsRead}
 use Rattle.pixel.specs.declared.types.ChannelsRead.the-variants as channels-read
 use Rattle.pixel.specs.declared.types.Channels.{Channels}
 use Rattle.pixel.specs.declared.types.Channels.the-variants.{Rgb, Rgba}
-use Rattle.pixel.specs.Colour.{clearPixel, alpha}
+use Rattle.pixel.specs.Colour.{clearPixel}
 use Rattle.pixel.specs.Types.{channelsNumber, channelsFrom}
-use Rattle.number.specs.declared.NumberRead.the-variants as number-read
-use Rattle.number.specs.Seven.{sevenBits, readNumber}
+use Rattle.number.specs.Seven.{sevenBits}
 use Rattle.header.specs.declared.Header.{Header}
-use Rattle.header.specs.declared.HeaderRead.the-variants as header-read
-use Rattle.header.specs.Header.{headerBytes, headerOf, dimensionsFit, pixelCount}
+use Rattle.header.specs.Header.{headerBytes, dimensionsFit, pixelCount}
 use Rattle.number.proofs.Laws.{read-written, rest-after-written, length-at-least-one, length-at-most-ten, length-one, length-at-most-five}
 use Rattle.header.proofs.Laws.{header-read-back, header-length}
-use Rattle.rules.specs.Reading.{Place}
-use Rattle.rules.specs.Step.{State, Typed, headerPasses, wantedPasses, atPasses, pixelPasses, alphaPasses, wellFormed, Started, started, notStarted}
+use Rattle.rules.specs.Step.{State, Typed, headerPasses, wantedPasses, atPasses, pixelPasses, alphaPasses, wellFormed, started}
 use Rattle.rules.specs.Record.{pixelsBytes, recordBytes, readPixel, readPixels, withNumber, readEnd, readSlots, readPositions, readWanted, readRecord}
 
 both : (a b : Bool) → T (a && b) → T a × T b

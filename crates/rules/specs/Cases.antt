@@ -1,27 +1,27 @@
 -- Document 01's pictures and messages on both sides, and its ways to get it wrong: one list, one test, one statement.
-use mathlib.Core.Bool.{Bool, true, false, _&&_}
+use mathlib.Core.Bool.{Bool, true, _&&_}
 use mathlib.Core.List.{List, [], _∷_, _++_}
 use Prim.Native.Nat.{ℕ, _+_, _*_}
-use lib.Dec.{T, eqb}
+use lib.Dec.{T}
 use lib.ListN.{length, take, drop, replicate}
 use Rattle.pixel.specs.declared.types.Channels.{Channels}
 use Rattle.pixel.specs.declared.types.Channels.the-variants.{Rgb, Rgba}
 use Rattle.pixel.specs.declared.types.ColorSpace.the-variants.{Srgb}
 use Rattle.pixel.specs.Colour.{slotOf}
-use Rattle.pixel.specs.Types.{channelsNumber}
 use Rattle.number.specs.Seven.{sevenBitsOf, sevenBits, groupBelow, readMore, readNumber}
 use Rattle.header.specs.declared.Header.{Header}
-use Rattle.header.specs.Header.{headerBytes, headerFrom, afterColorSpace, afterChannels, headerOf, pixelCount}
+use Rattle.header.specs.Header.{headerBytes, headerFrom, afterColorSpace, afterChannels, headerOf}
 use Rattle.rules.specs.Chunk.{chunkFrom, chunkAt, colourOf, timesOf, sizeOf}
-use Rattle.rules.specs.Reading.{Reading, Answer, marker, sameBytes, repeated, closing, startPlace, pixelsBrought, pixelAfter, placeAfter, bytesOf, moveBy, move, reading, readingInto, withWanted, withHeader, wholeReading}
+use Rattle.rules.specs.Reading.{marker, sameBytes, repeated, closing, startPlace, pixelsBrought, pixelAfter, placeAfter, bytesOf, moveBy, move, reading, readingInto, withWanted, withHeader, wholeReading}
 use Rattle.rules.specs.Decode.{decoderStores, decoderKeeps, decoderReadsRgba, decoding, restOf}
 use Rattle.rules.specs.Document.{documentReading}
 use Rattle.rules.specs.Encode.{fitsDiff, fitsLuma, diffBytes, lumaBytes, colourBytes, startPen, runEnded, slotHolds, differingBytes, pixelChunks, penAfter, chunksFrom, pixelFrom, pixelsFrom, streamOf, encodingInto, withSpace, withCount, withDimensions, encoding}
-use Rattle.rules.specs.Step.{State, wellFormed, Started, started, notStarted, startWanted, startHeader, starting, stepBy, step, steppedOver, Ran, going, ended, running}
+use Rattle.rules.specs.Step.{State, wellFormed, Started, started, notStarted, startWanted, startHeader, starting, stepBy, step, Ran, going, ended, running}
 use Rattle.rules.specs.Record.{pixelsBytes, recordBytes, recording, readPixel, readPixels, withNumber, readEnd, readSlots, readPositions, readWanted, readRecord}
 use Rattle.rules.specs.Strict.{strictClosed, strictClosing, strictCounted, strictBy, strictMove, strictFrom, strictHeader, strict}
-use Rattle.rules.specs.Figures.{headerFigures, answerFigures, encodeFigures, strictFigures, numberFigures, startFigures}
+use Rattle.rules.specs.Figures.{headerFigures, answerFigures, encodeFigures, strictFigures, numberFigures, startFigures, recordFigures}
 
+-- a row: what is given, and then what must come
 pub data Case : Type 0 where
   -- width, height, channels and bytes of a picture: the chunks of its stream
   encodes : ℕ → ℕ → Channels → List ℕ → List ℕ → Case
@@ -31,6 +31,8 @@ pub data Case : Type 0 where
   decodes : ℕ → ℕ → Channels → ℕ → List ℕ → List ℕ → List ℕ → Case
   -- width, height and channels, wanted, chunks: the decoder's bytes, the document's bytes
   reads : ℕ → ℕ → Channels → ℕ → List ℕ → List ℕ → List ℕ → Case
+  -- width, height and channels, wanted, what follows the header: the rest of the message
+  leaves : ℕ → ℕ → Channels → ℕ → List ℕ → List ℕ → Case
   -- width, height and channels, what follows the header: the strict answer's number and figures
   checks : ℕ → ℕ → Channels → List ℕ → List ℕ → Case
   -- a message: its header's number and figures
@@ -39,9 +41,14 @@ pub data Case : Type 0 where
   counts : ℕ → List ℕ → Case
   -- bytes: the number and figures of the number that they start with
   countsBack : List ℕ → List ℕ → Case
+  -- width, height and channels, wanted, room: the number and figures of writing the start's record
+  records : ℕ → ℕ → Channels → ℕ → ℕ → List ℕ → Case
+  -- width, height and channels, wanted, how much of the start's record, what then follows: the number and figures of reading it
+  readsBack : ℕ → ℕ → Channels → ℕ → ℕ → List ℕ → List ℕ → Case
   -- width, height and channels, wanted, chunks, steps before a checkpoint, what the next worker finds from the checkpoint's pixel on: the output at the end
   takesUp : ℕ → ℕ → Channels → ℕ → List ℕ → ℕ → ℕ → List ℕ → Case
 
+-- a header, sRGB
 abbrev headerWith : ℕ → ℕ → Channels → Header
 headerWith width height channels = record { width = width; height = height; channels = channels; colorspace = Srgb }
 
@@ -61,17 +68,24 @@ resumed m limit out found (started s) =
     let kept = s .place .pixel * s .wanted in
     afterRun (running m limit s (take kept out ++ replicate (length (drop kept out)) found))
 
+-- a first worker stops after its steps and leaves its record
 checkpointed : List ℕ → ℕ → ℕ → Ran → List ℕ
 checkpointed m limit found (going s out) = resumed m limit out found (readRecord (recordBytes s))
 checkpointed m limit found (ended answer s out) = []
 
+-- a first worker starts on an output of zeros
 begun : List ℕ → ℕ → ℕ → ℕ → ℕ → Started → List ℕ
 begun m steps limit size found (notStarted e) = []
 begun m steps limit size found (started s) = checkpointed m limit found (running m steps s (replicate size 0))
 
+-- the state at the start of a picture
+abbrev startState : ℕ → ℕ → Channels → ℕ → State
+startState width height channels wanted =
+    record { header = headerWith width height channels; wanted = wanted; place = startPlace }
+
 -- whether a case holds of the definitions
 pub holds : Case → Bool
-unfolding afterRun resumed checkpointed begun slotOf sevenBitsOf sevenBits groupBelow readMore readNumber headerBytes headerFrom afterColorSpace afterChannels headerOf chunkFrom chunkAt colourOf timesOf sizeOf sameBytes repeated closing startPlace pixelsBrought pixelAfter placeAfter bytesOf moveBy move reading readingInto withWanted withHeader wholeReading decoderStores decoderKeeps decoderReadsRgba fitsDiff fitsLuma diffBytes lumaBytes colourBytes startPen runEnded slotHolds differingBytes pixelChunks penAfter chunksFrom pixelFrom pixelsFrom streamOf encodingInto withSpace withCount withDimensions encoding wellFormed startWanted startHeader starting stepBy step running pixelsBytes recordBytes readPixel readPixels withNumber readEnd readSlots readPositions readWanted readRecord strictClosed strictClosing strictCounted strictBy strictMove strictFrom strictHeader strict
+unfolding afterRun resumed checkpointed begun slotOf sevenBitsOf sevenBits groupBelow readMore readNumber headerBytes headerFrom afterColorSpace afterChannels headerOf chunkFrom chunkAt colourOf timesOf sizeOf sameBytes repeated closing startPlace pixelsBrought pixelAfter placeAfter bytesOf moveBy move reading readingInto withWanted withHeader wholeReading decoderStores decoderKeeps decoderReadsRgba fitsDiff fitsLuma diffBytes lumaBytes colourBytes startPen runEnded slotHolds differingBytes pixelChunks penAfter chunksFrom pixelFrom pixelsFrom streamOf encodingInto withSpace withCount withDimensions encoding wellFormed startWanted startHeader starting stepBy step running pixelsBytes recordBytes recording restOf readPixel readPixels withNumber readEnd readSlots readPositions readWanted readRecord strictClosed strictClosing strictCounted strictBy strictMove strictFrom strictHeader strict
 holds (encodes width height channels picture chunks) =
     sameBytes (encoding picture width height 0 1000000 .bytes) (message width height channels chunks)
 holds (encodesInto width height colorspace picture room figures) =
@@ -84,12 +98,19 @@ holds (reads width height channels wanted chunks bytes documentBytes) =
     let room = width * height * wanted in
     sameBytes (answerFigures (decoding m wanted room .answer)) (0 ∷ room ∷ length m ∷ 0 ∷ 0 ∷ [])
     && (sameBytes (decoding m wanted room .bytes) bytes && sameBytes (documentReading m wanted room .bytes) documentBytes)
+holds (leaves width height channels wanted body rest) =
+    let m = headerBytes (headerWith width height channels) ++ body in
+    sameBytes (restOf m (decoding m wanted (width * height * wanted) .answer)) rest
 holds (checks width height channels body figures) =
     sameBytes (strictFigures (strict (headerBytes (headerWith width height channels) ++ body))) figures
 holds (opens m figures) = sameBytes (headerFigures (headerOf m)) figures
 holds (counts n bytes) =
     sameBytes (sevenBits n) bytes && sameBytes (numberFigures (readNumber bytes)) (0 ∷ n ∷ length bytes ∷ 0 ∷ 0 ∷ [])
 holds (countsBack bytes figures) = sameBytes (numberFigures (readNumber bytes)) figures
+holds (records width height channels wanted room figures) =
+    sameBytes (recordFigures (recording (startState width height channels wanted) room)) figures
+holds (readsBack width height channels wanted most following figures) =
+    sameBytes (startFigures (readRecord (take most (recordBytes (startState width height channels wanted)) ++ following))) figures
 holds (takesUp width height channels wanted chunks steps found out) =
     let m = message width height channels chunks in
     sameBytes (begun m steps (width * height + 1) (width * height * wanted) found (starting m wanted)) out
@@ -170,6 +191,25 @@ noted =
     ∷ checks 1 1 Rgb (0xfd ∷ []) (10 ∷ 0 ∷ 0 ∷ 0 ∷ 0 ∷ [])
     ∷ checks 1 1 Rgb (0xc0 ∷ (marker ++ (0 ∷ []))) (11 ∷ 0 ∷ 0 ∷ 0 ∷ 0 ∷ [])
     ∷ decodes 1 1 Rgb 3 (0xc0 ∷ (marker ++ (0 ∷ []))) (0 ∷ 3 ∷ 23 ∷ 0 ∷ 0 ∷ []) (0 ∷ 0 ∷ 0 ∷ [])
+    ∷ leaves 1 1 Rgb 3 (0xc0 ∷ (marker ++ (1 ∷ 2 ∷ []))) (1 ∷ 2 ∷ [])
+    ∷ leaves 1 1 Rgb 3 (0xc0 ∷ (0 ∷ 0 ∷ 0 ∷ 0 ∷ 0 ∷ 0 ∷ 0 ∷ 2 ∷ 1 ∷ [])) []
+    ∷ []
+
+-- the record's length, and its refusals from left to right
+recordRows : List Case
+recordRows =
+    records 1 1 Rgb 3 277 (0 ∷ 277 ∷ 0 ∷ 0 ∷ 0 ∷ [])
+    ∷ records 1 1 Rgb 3 276 (7 ∷ 276 ∷ 277 ∷ 0 ∷ 0 ∷ [])
+    ∷ records 1 1 Rgb 5 277 (9 ∷ 0 ∷ 0 ∷ 0 ∷ 0 ∷ [])
+    ∷ readsBack 1 1 Rgb 3 277 [] (0 ∷ 14 ∷ 0 ∷ 3 ∷ 0 ∷ [])
+    ∷ readsBack 1 1 Rgb 3 13 [] (1 ∷ 0 ∷ 0 ∷ 0 ∷ 0 ∷ [])
+    ∷ readsBack 1 1 Rgb 3 14 [] (1 ∷ 0 ∷ 0 ∷ 0 ∷ 0 ∷ [])
+    ∷ readsBack 1 1 Rgb 3 14 (0x82 ∷ 0x00 ∷ []) (9 ∷ 0 ∷ 0 ∷ 0 ∷ 0 ∷ [])
+    ∷ readsBack 1 1 Rgb 3 14 (0x05 ∷ []) (2 ∷ 5 ∷ 0 ∷ 0 ∷ 0 ∷ [])
+    ∷ readsBack 1 1 Rgb 3 14 (0xac ∷ 0x02 ∷ []) (2 ∷ 255 ∷ 0 ∷ 0 ∷ 0 ∷ [])
+    ∷ readsBack 1 1 Rgb 3 276 [] (1 ∷ 0 ∷ 0 ∷ 0 ∷ 0 ∷ [])
+    ∷ readsBack 1 1 Rgb 3 277 (0 ∷ []) (9 ∷ 0 ∷ 0 ∷ 0 ∷ 0 ∷ [])
+    ∷ readsBack 1 1 Rgb 3 15 (0x0d ∷ replicate 261 0) (9 ∷ 0 ∷ 0 ∷ 0 ∷ 0 ∷ [])
     ∷ []
 
 -- the ends of the ranges that choose DIFF, LUMA and RGB
@@ -189,10 +229,11 @@ edges =
     ∷ encodes 1 1 Rgb (0 ∷ 0 ∷ 247 ∷ []) (0xfe ∷ 0 ∷ 0 ∷ 247 ∷ [])
     ∷ []
 
+-- all of them
 pub cases : List Case
-cases = proved ++ (compared ++ (mistaken ++ (noted ++ edges)))
+cases = proved ++ (compared ++ (mistaken ++ (noted ++ (recordRows ++ edges))))
 
 -- every case holds
 pub cases-hold : T (allHold cases)
-unfolding allHold holds cases proved compared mistaken noted edges
+unfolding allHold holds cases proved compared mistaken noted recordRows edges
 cases-hold = tt

@@ -27,6 +27,7 @@ decoderKeeps wanted p = cond (eqb wanted 3) (withAlpha p 255) p
 unfoldable pub decoderReadsRgba : ℕ → Bool
 decoderReadsRgba channels = eqb channels 4
 
+-- the three points together
 abbrev pub decoder : Way
 decoder = record { stores = decoderStores; keeps = decoderKeeps; readsRgba = decoderReadsRgba }
 

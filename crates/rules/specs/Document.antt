@@ -18,6 +18,7 @@ documentKeeps wanted p = p
 abbrev pub documentReadsRgba : ℕ → Bool
 documentReadsRgba channels = true
 
+-- the three points together
 abbrev pub document : Way
 document = record { stores = documentStores; keeps = documentKeeps; readsRgba = documentReadsRgba }
 

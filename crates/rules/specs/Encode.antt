@@ -1,5 +1,5 @@
 -- The encoder's rules: the stream of a picture, and the order of the refusals.
-use mathlib.Core.Bool.{Bool, true, false, cond, not, _&&_, _||_}
+use mathlib.Core.Bool.{Bool, true, false, cond, _&&_, _||_}
 use mathlib.Core.List.{List, [], _∷_, _++_}
 use Prim.Native.Nat.{ℕ, zero, suc, _+_, _-_, _*_, _/_, _%_}
 use lib.Dec.{ltb, eqb}
@@ -7,7 +7,6 @@ use lib.ListN.{length, getD, drop, set, replicate}
 use Rattle.pixel.specs.declared.Pixel.{Pixel}
 use Rattle.pixel.specs.declared.error.Error.{Error}
 use Rattle.pixel.specs.declared.error.Error.the-variants.{InvalidImageLength, OutputBufferTooSmall}
-use Rattle.pixel.specs.declared.types.Channels.{Channels}
 use Rattle.pixel.specs.declared.types.ChannelsRead.{ChannelsRead}
 use Rattle.pixel.specs.declared.types.ChannelsRead.the-variants as channels-read
 use Rattle.pixel.specs.declared.types.ColorSpaceRead.{ColorSpaceRead}
@@ -59,6 +58,7 @@ pub record Pen : Type 0 where
   pub run : ℕ
   pub differed : Bool
 
+-- before the first pixel
 unfoldable pub startPen : Pen
 startPen = record { slots = replicate 64 clearPixel; previous = startPixel; run = 0; differed = false }
 
@@ -72,10 +72,11 @@ runEnded pen =
     cond (eqb (pen .run) 0) []
     (cond (eqb (pen .run) 1 && pen .differed) (slotOf (pen .previous) ∷ []) (runByte (pen .run) ∷ []))
 
--- a differing pixel: INDEX if its slot holds it, else its colour
+-- whether a pixel's slot holds it
 unfoldable pub slotHolds : Pen → Pixel → Bool
 slotHolds pen p = samePixel (getD (pen .slots) (slotOf p) clearPixel) p
 
+-- a differing pixel: INDEX if its slot holds it, else its colour
 unfoldable pub differingBytes : Pen → Pixel → List ℕ
 differingBytes pen p = cond (slotHolds pen p) (slotOf p ∷ []) (colourBytes (pen .previous) p)
 
@@ -101,6 +102,7 @@ penAfter pen last p =
     })
     (record { slots = set (pen .slots) (slotOf p) p; previous = p; run = 0; differed = true })
 
+-- whether no pixel follows
 abbrev pub isLast : List Pixel → Bool
 isLast [] = true
 isLast (p ∷ rest) = false
@@ -131,10 +133,12 @@ pub data EncodeAnswer : Type 0 where
   encoded : ℕ → EncodeAnswer
   notEncoded : Error → EncodeAnswer
 
+-- an encode: its answer and every byte that it wrote
 pub record Encoding : Type 0 where
   pub answer : EncodeAnswer
   pub bytes : List ℕ
 
+-- a refusal, with nothing written
 abbrev pub nothingEncoded : Error → Encoding
 nothingEncoded e = record { answer = notEncoded e; bytes = [] }
 

@@ -2,7 +2,7 @@
 use mathlib.Core.Bool.{Bool, true, false, cond, _&&_}
 use mathlib.Core.List.{List, [], _∷_, _++_}
 use Prim.Native.Nat.{ℕ, zero, suc, _+_, _-_, _*_, min}
-use lib.Dec.{ltb, leb, eqb}
+use lib.Dec.{ltb, eqb}
 use lib.ListN.{length, take, drop, set, replicate}
 use Rattle.pixel.specs.declared.Pixel.{Pixel}
 use Rattle.pixel.specs.declared.error.Error.{Error}
@@ -17,6 +17,7 @@ use Rattle.header.specs.declared.HeaderRead.the-variants as header-read
 use Rattle.header.specs.Header.{pixelCount, headerOf}
 use Rattle.rules.specs.Chunk.{Chunk, Found, cut, chunk, chunkAt, colourOf, timesOf, sizeOf}
 
+-- the points on which two decoders may differ
 pub record Way : Type 0 where
   -- which chunks store their pixel in its slot
   pub stores : Chunk → Bool
@@ -65,6 +66,7 @@ abbrev pub readOn : (Place → Reading) → Move → Reading
 readOn next (more place bytes) = after bytes (next place)
 readOn next (end answer) = silent answer
 
+-- more bytes written before some moves
 abbrev pub playedAfter : List ℕ → Played → Played
 playedAfter bytes (going place written) = going place (bytes ++ written)
 playedAfter bytes (ended r) = ended (after bytes r)
@@ -161,6 +163,7 @@ module _ (way : Way) (message : List ℕ) (room : ℕ) where
   withWanted header (channels-read.Refused e) = silent (refused e)
   withWanted header (channels-read.Ok channels) = readingInto way header (channelsNumber channels) message room
 
+  -- the header's refusals come first
   unfoldable pub withHeader : ℕ → HeaderRead → Reading
   withHeader wanted (header-read.Refused e) = silent (refused e)
   withHeader wanted (header-read.Ok header) = withWanted header (channelsFrom wanted)

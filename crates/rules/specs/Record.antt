@@ -1,8 +1,8 @@
 -- The record of a state: its bytes, writing them, and reading them left to right with the order of the refusals.
-use mathlib.Core.Bool.{Bool, true, false, cond}
+use mathlib.Core.Bool.{cond}
 use mathlib.Core.List.{List, [], _∷_, _++_}
 use Prim.Native.Nat.{ℕ, zero, suc}
-use lib.Dec.{ltb, leb, eqb}
+use lib.Dec.{ltb, eqb}
 use lib.ListN.{length, getD, drop}
 use Rattle.pixel.specs.declared.Pixel.{Pixel}
 use Rattle.pixel.specs.declared.error.Error.{Error}
@@ -96,6 +96,7 @@ readPositions header (channels-read.Ok channels) bytes =
     withNumber bytes (readNumber bytes)
     (λ at rest. withNumber rest (readNumber rest) (λ pixel rest′. readSlots header (channelsNumber channels) at pixel rest′))
 
+-- after the header, with its refusals: wanted
 unfoldable pub readWanted : HeaderRead → List ℕ → Started
 readWanted (header-read.Refused e) bytes = notStarted e
 readWanted (header-read.Ok header) bytes =

@@ -1,6 +1,6 @@
 -- Steps: the state that moves on by value, when it is well formed, a start, one step, and so many steps.
-use mathlib.Core.Bool.{Bool, true, false, cond, not, _&&_, _||_}
-use mathlib.Core.List.{List, [], _++_}
+use mathlib.Core.Bool.{Bool, cond, not, _&&_, _||_}
+use mathlib.Core.List.{List, _++_}
 use mathlib.Core.Path.{_≡_}
 use Prim.Native.Nat.{ℕ, zero, suc, _+_, _*_, _^_, _<_}
 use lib.Dec.{ltb, leb, eqb}
@@ -62,11 +62,13 @@ pub data Started : Type 0 where
   started : State → Started
   notStarted : Error → Started
 
+-- 2 for wanted other than 3 or 4; else the start place
 unfoldable pub startWanted : Header → ChannelsRead → Started
 startWanted header (channels-read.Refused e) = notStarted e
 startWanted header (channels-read.Ok channels) =
     started (record { header = header; wanted = channelsNumber channels; place = startPlace })
 
+-- the header's refusals come first
 unfoldable pub startHeader : ℕ → HeaderRead → Started
 startHeader wanted (header-read.Refused e) = notStarted e
 startHeader wanted (header-read.Ok header) = startWanted header (channelsFrom wanted)

@@ -1,9 +1,9 @@
 -- The strict check: what a decode accepts, with no run past the image and nothing after the marker; it counts chunks and bytes.
-use mathlib.Core.Bool.{Bool, true, false, cond}
-use mathlib.Core.List.{List, [], _∷_}
+use mathlib.Core.Bool.{cond}
+use mathlib.Core.List.{List}
 use Prim.Native.Nat.{ℕ, zero, suc, _+_, _-_}
 use lib.Dec.{ltb, leb, eqb}
-use lib.ListN.{length, take, drop}
+use lib.ListN.{length, drop}
 use Rattle.pixel.specs.declared.error.Error.{Error}
 use Rattle.pixel.specs.declared.error.Error.the-variants.{InvalidPadding, RunPastImage, BytesAfterMarker, UnexpectedBufferEnd}
 use Rattle.pixel.specs.Types.{channelsNumber}
@@ -26,6 +26,7 @@ pub record Tally : Type 0 where
   pub left : ℕ
   pub chunks : ℕ
 
+-- one move of the check: on to the next tally, or the end
 pub data StrictMove : Type 0 where
   more : Tally → StrictMove
   end : StrictAnswer → StrictMove
@@ -42,6 +43,7 @@ module _ (header : Header) (message : List ℕ) where
   strictClosed chunks (Answer.done size used) =
       cond (ltb used (length message)) (rejected BytesAfterMarker) (accepted header chunks used)
 
+  -- the end of a message
   unfoldable pub strictClosing : Tally → StrictAnswer
   strictClosing tally = strictClosed (tally .chunks) (closing 0 message (tally .at))
 
@@ -63,6 +65,7 @@ module _ (header : Header) (message : List ℕ) where
   strictBy tally (chunk (RGBA r g b a)) = strictCounted tally (RGBA r g b a)
   strictBy tally (chunk Stuck) = end (rejected InvalidPadding)
 
+  -- one chunk or, with no pixel left, the end
   unfoldable pub strictMove : Tally → StrictMove
   strictMove tally =
       cond (eqb (tally .left) 0) (end (strictClosing tally))
@@ -73,6 +76,7 @@ module _ (header : Header) (message : List ℕ) where
   strictFrom zero tally = strictClosing tally
   strictFrom (suc n) tally = checkOn (strictFrom n) (strictMove tally)
 
+-- the header's refusals come first
 unfoldable pub strictHeader : List ℕ → HeaderRead → StrictAnswer
 strictHeader message (header-read.Refused e) = rejected e
 strictHeader message (header-read.Ok header) =
