@@ -1,3 +1,4 @@
 -- The laws of the definitions, for the layers above to cite.
+pub mod ChunkLaws
 pub mod ReadingLaws
 pub mod RecordLaws

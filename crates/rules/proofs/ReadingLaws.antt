@@ -1,6 +1,6 @@
 -- Laws of a reading, over every way: each move brings a pixel, so the end comes within the pixels plus one moves, and no more is written than the picture.
 -- Assumes nothing.
-use mathlib.Core.Path.{_≡_, refl, ap}
+use mathlib.Core.Path.{_≡_, refl, ap, _∙_}
 use mathlib.Core.Bool.{Bool, true, false, cond}
 use mathlib.Core.List.{List, [], _∷_}
 use Prim.Native.Nat.{ℕ, zero, suc, _+_, _-_, _*_, _≤_, _<_, zero-le}
@@ -13,7 +13,7 @@ use Rattle.header.specs.declared.Header.{Header}
 use Rattle.header.specs.Header.{pixelCount}
 use Rattle.pixel.specs.Types.{channelsNumber}
 use Rattle.rules.specs.Chunk.{Chunk, Found, cut, chunk, chunkFrom, chunkAt, timesOf, RUN}
-use Rattle.rules.specs.Reading.{Way, Place, Answer, Move, more, end, ended, playedAfter, readOn, playOn, repeated, closing, sizeWanted, pixelsBrought, pixelAfter, placeAfter, bytesOf, moveBy, move, played, reading}
+use Rattle.rules.specs.Reading.{Way, Place, Answer, Move, more, end, ended, after, remaining, playedAfter, readOn, playOn, repeated, closing, sizeWanted, pixelsBrought, pixelAfter, placeAfter, bytesOf, moveBy, move, played, reading}
 
 -- what holds of both holds of the one that a test picks
 cond-both : {A : Type 0} (P : A → Type 0) (b : Bool) {x y : A} → P x → P y → P (cond b x y)
@@ -104,8 +104,46 @@ module _ (way : Way) (header : Header) (wanted : ℕ) (message : List ℕ) where
           → playOn (played way header wanted message (suc n)) m ≡ ended (readOn (reading way header wanted message n) m)
       go ih m (at-end answer) = refl
       go ih m (by-chunk k once missing) =
-          ap (playedAfter _)
+          ap (playedAfter (bytesOf way header wanted message place k))
           (ih (placeAfter way header wanted message place k) (omega (arith, advances place k once missing)))
+
+  -- a reading is the same with any fuel that is enough
+  reading-enough :
+      (n m : ℕ) (place : Place) → pixelCount header ≤ place .pixel + n → pixelCount header ≤ place .pixel + m
+      → reading way header wanted message n place ≡ reading way header wanted message m place
+  unfolding reading
+  reading-enough zero zero place few enough = refl
+  reading-enough zero (suc m) place few enough = rw (moved-last place (omega arith))
+  reading-enough (suc n) zero place few enough = rw (moved-last place (omega arith))
+  reading-enough (suc n) (suc m) place few enough = go (reading-enough n m) (move way header wanted message place) (moved place)
+    where
+      go :
+          ((next : Place) → pixelCount header ≤ next .pixel + n → pixelCount header ≤ next .pixel + m
+          → reading way header wanted message n next ≡ reading way header wanted message m next)
+          → (v : Move) → Moved place v
+          → readOn (reading way header wanted message n) v ≡ readOn (reading way header wanted message m) v
+      go ih v (at-end answer) = refl
+      go ih v (by-chunk k once missing) =
+          ap (after (bytesOf way header wanted message place k))
+          (ih (placeAfter way header wanted message place k) (omega (arith, advances place k once missing)) (omega (arith, advances place k once missing)))
+
+  -- the reading from a place is a move and then the reading from where it leads
+  pub remaining-unfolds :
+      (place : Place)
+      → remaining way header wanted message place
+      ≡ readOn (remaining way header wanted message) (move way header wanted message place)
+  unfolding reading
+  remaining-unfolds place =
+      reading-enough (pixelCount header - place .pixel) (suc (pixelCount header - place .pixel)) place (omega arith) (omega arith)
+      ∙ step (move way header wanted message place) (moved place)
+    where
+      step :
+          (v : Move) → Moved place v
+          → readOn (reading way header wanted message (pixelCount header - place .pixel)) v ≡ readOn (remaining way header wanted message) v
+      step v (at-end answer) = refl
+      step v (by-chunk k once missing) =
+          ap (after (bytesOf way header wanted message place k))
+          (reading-enough (pixelCount header - place .pixel) (pixelCount header - placeAfter way header wanted message place k .pixel) (placeAfter way header wanted message place k) (omega (arith, advances place k once missing)) (omega arith))
 
   -- a chunk writes at most its pixels
   chunk-size :

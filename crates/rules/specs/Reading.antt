@@ -151,11 +151,15 @@ module _ (way : Way) (header : Header) (wanted : ℕ) (message : List ℕ) where
   reading zero place = silent (closing sizeWanted message (place .at))
   reading (suc left) place = readOn (reading left) (move place)
 
+  -- the reading from a place to its end
+  abbrev pub remaining : Place → Reading
+  remaining place = reading (pixelCount header - place .pixel) place
+
   -- the reading of a message whose header is known, into so many bytes: 7, then the chunks
   unfoldable pub readingInto : ℕ → Reading
   readingInto room =
       cond (ltb room sizeWanted) (silent (refused (OutputBufferTooSmall room sizeWanted)))
-      (reading (pixelCount header) startPlace)
+      (remaining startPlace)
 
 module _ (way : Way) (message : List ℕ) (room : ℕ) where
   -- 2 for wanted other than 3 or 4

@@ -57,7 +57,7 @@ impl Tally {
         print(b"header with several faults", self.agreed[2], self.cases[2]);
         print(b"header accepted", self.agreed[3], self.cases[3]);
         print(b"header made", self.agreed[4], self.cases[4]);
-        print(b"room", self.agreed[5], self.cases[5]);
+        print(b"room for a picture", self.agreed[5], self.cases[5]);
         print(b"header written", self.agreed[6], self.cases[6]);
         print(b"channel counts", self.agreed[7], self.cases[7]);
         print(b"colour spaces", self.agreed[8], self.cases[8]);

@@ -49,7 +49,12 @@ struct Fields {
     colorspace: u8,
 }
 
-const PLAIN: Fields = Fields { magic: *b"qoif", size: (800, 600), channels: 4, colorspace: 1 };
+const PLAIN: Fields = Fields {
+    magic: *b"qoif",
+    size: (800, 600),
+    channels: 4,
+    colorspace: 1,
+};
 
 impl Fields {
     fn bytes(&self) -> Vec<u8> {
@@ -62,7 +67,9 @@ impl Fields {
 }
 
 fn both() -> impl Iterator<Item = (u8, u8)> {
-    CHANNELS.into_iter().flat_map(|c| COLOR_SPACES.into_iter().map(move |s| (c, s)))
+    CHANNELS
+        .into_iter()
+        .flat_map(|c| COLOR_SPACES.into_iter().map(move |s| (c, s)))
 }
 
 fn figures(header: Header) -> [u64; 4] {
@@ -76,16 +83,32 @@ fn figures(header: Header) -> [u64; 4] {
 
 /// A header read; a group of its own for each kind of input.
 fn read(list: &mut List, group: char, message: &[u8]) {
-    list.case(group, &answer(qoi::decode_header(message), figures), message);
+    list.case(
+        group,
+        &answer(qoi::decode_header(message), figures),
+        message,
+    );
 }
 
 /// a: fewer than fourteen bytes.
 fn cut_short(list: &mut List) {
     let wholes = [
         PLAIN.bytes(),
-        Fields { channels: 5, ..PLAIN }.bytes(),
-        Fields { magic: *b"fioq", ..PLAIN }.bytes(),
-        Fields { size: (0, 0), ..PLAIN }.bytes(),
+        Fields {
+            channels: 5,
+            ..PLAIN
+        }
+        .bytes(),
+        Fields {
+            magic: *b"fioq",
+            ..PLAIN
+        }
+        .bytes(),
+        Fields {
+            size: (0, 0),
+            ..PLAIN
+        }
+        .bytes(),
         vec![0x00; 14],
         vec![0xff; 14],
     ];
@@ -100,12 +123,30 @@ fn cut_short(list: &mut List) {
 fn one_fault(list: &mut List) {
     for colorspace in COLOR_SPACES {
         for channels in [0, 1, 2, 5, 127, 255] {
-            read(list, 'b', &Fields { channels, colorspace, ..PLAIN }.bytes());
+            read(
+                list,
+                'b',
+                &Fields {
+                    channels,
+                    colorspace,
+                    ..PLAIN
+                }
+                .bytes(),
+            );
         }
     }
     for channels in CHANNELS {
         for colorspace in [2, 3, 128, 255] {
-            read(list, 'b', &Fields { channels, colorspace, ..PLAIN }.bytes());
+            read(
+                list,
+                'b',
+                &Fields {
+                    channels,
+                    colorspace,
+                    ..PLAIN
+                }
+                .bytes(),
+            );
         }
     }
     let mut magics = vec![[0x00; 4], [0xff; 4], *b"fioq", *b"QOIF"];
@@ -121,7 +162,17 @@ fn one_fault(list: &mut List) {
     }
     for size in BAD {
         for (channels, colorspace) in both() {
-            read(list, 'b', &Fields { size, channels, colorspace, ..PLAIN }.bytes());
+            read(
+                list,
+                'b',
+                &Fields {
+                    size,
+                    channels,
+                    colorspace,
+                    ..PLAIN
+                }
+                .bytes(),
+            );
         }
     }
 }
@@ -131,8 +182,18 @@ fn several_faults(list: &mut List) {
     for channels in [4, 0, 5, 255] {
         for colorspace in [1, 2, 128, 255] {
             for magic in [*b"qoif", *b"poif", *b"qoig", [0x00; 4]] {
-                for size in [(800, 600), (0, 1), (20_000, 20_001), (4_294_967_295, 4_294_967_295)] {
-                    let fields = Fields { magic, size, channels, colorspace };
+                for size in [
+                    (800, 600),
+                    (0, 1),
+                    (20_000, 20_001),
+                    (4_294_967_295, 4_294_967_295),
+                ] {
+                    let fields = Fields {
+                        magic,
+                        size,
+                        channels,
+                        colorspace,
+                    };
                     let faults = usize::from(channels != PLAIN.channels)
                         + usize::from(colorspace != PLAIN.colorspace)
                         + usize::from(magic != PLAIN.magic)
@@ -155,7 +216,13 @@ fn good(list: &mut List) {
     for size in GOOD {
         for (channels, colorspace) in both() {
             for after in [&[][..], &[0xff], &[0, 0, 0, 0, 0, 0, 0, 1]] {
-                let mut message = Fields { size, channels, colorspace, ..PLAIN }.bytes();
+                let mut message = Fields {
+                    size,
+                    channels,
+                    colorspace,
+                    ..PLAIN
+                }
+                .bytes();
                 message.extend(after);
                 read(list, 'd', &message);
             }
@@ -165,11 +232,21 @@ fn good(list: &mut List) {
 
 /// The ten bytes that name a header: width, height, channels, colour space.
 fn named(size: (u32, u32), channels: u8, colorspace: u8) -> Vec<u8> {
-    Fields { size, channels, colorspace, ..PLAIN }.bytes()[4..].to_vec()
+    Fields {
+        size,
+        channels,
+        colorspace,
+        ..PLAIN
+    }
+    .bytes()[4..]
+        .to_vec()
 }
 
 fn types(channels: u8, colorspace: u8) -> (Channels, ColorSpace) {
-    (Channels::try_from(channels).unwrap(), ColorSpace::try_from(colorspace).unwrap())
+    (
+        Channels::try_from(channels).unwrap(),
+        ColorSpace::try_from(colorspace).unwrap(),
+    )
 }
 
 /// e: headers made of their figures, and the sums over them.
@@ -178,7 +255,12 @@ fn made(list: &mut List) {
         for (channels, colorspace) in both() {
             let (c, s) = types(channels, colorspace);
             let sums = |h: Header| {
-                [h.n_pixels() as u64, h.n_bytes() as u64, h.encode_max_len() as u64, 0]
+                [
+                    h.n_pixels() as u64,
+                    h.n_bytes() as u64,
+                    h.encode_max_len() as u64,
+                    0,
+                ]
             };
             let result = answer(Header::try_new(size.0, size.1, c, s), sums);
             list.case('e', &result, &named(size, channels, colorspace));
@@ -188,8 +270,12 @@ fn made(list: &mut List) {
 
 /// f: the room for any figures, but those at which the Rust's sum overflows.
 fn room(list: &mut List) {
-    // the largest without an overflow, at one channel, at four and at 255
-    let edges = [(4_294_967_295, 2_147_483_648), (4_294_967_295, 858_993_459), (4_294_967_295, 16_777_216)];
+    // the largest without an overflow for this width, at one channel, at four and at 255
+    let edges = [
+        (4_294_967_295, 2_147_483_648),
+        (4_294_967_295, 858_993_459),
+        (4_294_967_295, 16_777_216),
+    ];
     for size in GOOD.into_iter().chain(BAD).chain(edges) {
         for channels in [0_u8, 1, 2, 3, 4, 5, 127, 255] {
             let sum = u128::from(size.0) * u128::from(size.1) * (u128::from(channels) + 1) + 22;
@@ -214,10 +300,13 @@ fn written(list: &mut List) {
         (1, 257),
         (258, 259),
         (65_535, 1),
+        (1, 65_535),
         (65_536, 1),
         (1, 65_537),
         (66_051, 1),
         (1, 66_051),
+        (16_702_650, 1),
+        (1, 16_702_650),
         (16_909_060, 1),
         (1, 16_909_060),
     ];
@@ -225,7 +314,8 @@ fn written(list: &mut List) {
         for (channels, colorspace) in both() {
             let pixels = vec![0; size.0 as usize * size.1 as usize * usize::from(channels)];
             let encoder = Encoder::new(&pixels, size.0, size.1).unwrap();
-            let message = encoder.with_colorspace(types(channels, colorspace).1).encode_to_vec().unwrap();
+            let encoder = encoder.with_colorspace(types(channels, colorspace).1);
+            let message = encoder.encode_to_vec().unwrap();
             let mut input = named(size, channels, colorspace);
             input.extend(&message[..14]);
             list.case('g', &accepted([0; 4]), &input);

@@ -23,9 +23,11 @@ fn refused(error: &qoi::Error) -> Answer {
         InvalidColorSpace { colorspace } => (3, [colorspace.into(), 0, 0, 0]),
         InvalidMagic { magic } => (4, [magic.into(), 0, 0, 0]),
         InvalidImageDimensions { width, height } => (5, [width.into(), height.into(), 0, 0]),
-        InvalidImageLength { size, width, height } => {
-            (6, [size as u64, width.into(), height.into(), 0])
-        }
+        InvalidImageLength {
+            size,
+            width,
+            height,
+        } => (6, [size as u64, width.into(), height.into(), 0]),
         OutputBufferTooSmall { size, required } => (7, [size as u64, required as u64, 0, 0]),
         InvalidPadding => (8, [0; 4]),
         IoError(ref e) => panic!("no slice gives an i/o error: {e}"),

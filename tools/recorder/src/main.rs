@@ -12,5 +12,7 @@ fn main() {
     for (group, count) in list.counts() {
         eprintln!("group {group}: {count} cases");
     }
-    std::io::stdout().write_all(list.text().as_bytes()).expect("the list is written");
+    std::io::stdout()
+        .write_all(list.text().as_bytes())
+        .expect("the list is written");
 }
