@@ -1,13 +1,42 @@
 -- The chunk table row by row, over a part that is known by its length and its bytes; and what every chunk that is found keeps to.
 -- Assumes nothing.
 use mathlib.Core.Path.{_≡_, refl}
-use mathlib.Core.Bool.{Bool, true, false}
+use mathlib.Core.Bool.{Bool, true, false, cond}
 use mathlib.Core.List.{List, [], _∷_}
-use Prim.Native.Nat.{ℕ, suc, _+_, _/_, _%_, _≤_, _<_}
+use Prim.Native.Nat.{ℕ, _+_, _/_, _%_, _≤_, _<_, zero-le}
+use native.Mathlib.Nat.{lt-of-not-le}
+use native.Mathlib.Decide.{decLe}
 use native.Mathlib.Omega.{arith}
 use borrow.Author.Tests.{lt-ltb, le-ltb, le-leb, lt-leb}
 use lib.ListN.{length, getD}
-use Rattle.rules.specs.Chunk.{cut, chunk, chunkFrom, chunkAt, INDEX, DIFF, LUMA, RUN, RGB, RGBA, Stuck}
+use Rattle.rules.specs.Chunk.{Chunk, Found, cut, chunk, needing, chunkFrom, chunkAt, timesOf, sizeOf, INDEX, DIFF, LUMA, RUN, RGB, RGBA, Stuck}
+
+-- a proof for each of two numbers' orders
+if-below : {P : Type 0} (a b : ℕ) → (a < b → P) → (b ≤ a → P) → P
+if-below {P} a b less more = go (decLe b a)
+  where
+    go : Dec (b ≤ a) → P
+    go (yes h) = more h
+    go (no h) = less (lt-of-not-le h)
+
+-- INDEX names one of the 64 slots
+abbrev pub SlotFits : Chunk → Type 0
+SlotFits (INDEX slot) = slot < 64
+SlotFits (DIFF r g b) = Unit {0}
+SlotFits (LUMA g r b) = Unit {0}
+SlotFits (RUN times) = Unit {0}
+SlotFits (RGB r g b) = Unit {0}
+SlotFits (RGBA r g b a) = Unit {0}
+SlotFits Stuck = Unit {0}
+
+-- a first byte ff: RGBA or stuck
+last-row :
+    (readsRgba : Bool) (byte : ℕ) (rest : List ℕ) → 0xff ≤ byte
+    → chunkAt readsRgba (byte ∷ rest)
+    ≡ cond readsRgba (needing 4 rest (RGBA (getD rest 0 0) (getD rest 1 0) (getD rest 2 0) (getD rest 3 0))) (needing 7 rest Stuck)
+unfolding chunkAt chunkFrom
+last-row readsRgba byte rest high =
+    rw (le-ltb byte 0x40 (omega arith), le-ltb byte 0x80 (omega arith), le-ltb byte 0xc0 (omega arith), le-ltb byte 0xfe (omega arith), le-ltb byte 0xff high)
 
 pub no-row : (readsRgba : Bool) (part : List ℕ) → length part ≡ 0 → chunkAt readsRgba part ≡ cut
 unfolding chunkAt
@@ -67,25 +96,68 @@ rgb-cut readsRgba [] some short is = absurd (omega arith)
 rgb-cut readsRgba (byte ∷ rest) some short is = rw (is, lt-leb 3 (length rest) (omega arith))
 
 pub rgba-row :
-    (part : List ℕ) → 5 ≤ length part → getD part 0 0 ≡ 0xff
+    (part : List ℕ) → 5 ≤ length part → 0xff ≤ getD part 0 0
     → chunkAt true part ≡ chunk (RGBA (getD part 1 0) (getD part 2 0) (getD part 3 0) (getD part 4 0))
-unfolding chunkAt chunkFrom
-rgba-row [] whole is = absurd (omega arith)
-rgba-row (byte ∷ rest) whole is = rw (is, le-leb 4 (length rest) (omega arith))
+rgba-row [] whole high = absurd (omega arith)
+rgba-row (byte ∷ rest) whole high = rw (last-row true byte rest high, le-leb 4 (length rest) (omega arith))
 
 pub rgba-cut :
-    (part : List ℕ) → 1 ≤ length part → length part < 5 → getD part 0 0 ≡ 0xff → chunkAt true part ≡ cut
-unfolding chunkAt chunkFrom
-rgba-cut [] some short is = absurd (omega arith)
-rgba-cut (byte ∷ rest) some short is = rw (is, lt-leb 4 (length rest) (omega arith))
+    (part : List ℕ) → 1 ≤ length part → length part < 5 → 0xff ≤ getD part 0 0 → chunkAt true part ≡ cut
+rgba-cut [] some short high = absurd (omega arith)
+rgba-cut (byte ∷ rest) some short high = rw (last-row true byte rest high, lt-leb 4 (length rest) (omega arith))
 
-pub stuck-row : (part : List ℕ) → 8 ≤ length part → getD part 0 0 ≡ 0xff → chunkAt false part ≡ chunk Stuck
-unfolding chunkAt chunkFrom
-stuck-row [] whole is = absurd (omega arith)
-stuck-row (byte ∷ rest) whole is = rw (is, le-leb 7 (length rest) (omega arith))
+pub stuck-row : (part : List ℕ) → 8 ≤ length part → 0xff ≤ getD part 0 0 → chunkAt false part ≡ chunk Stuck
+stuck-row [] whole high = absurd (omega arith)
+stuck-row (byte ∷ rest) whole high = rw (last-row false byte rest high, le-leb 7 (length rest) (omega arith))
 
 pub stuck-cut :
-    (part : List ℕ) → 1 ≤ length part → length part < 8 → getD part 0 0 ≡ 0xff → chunkAt false part ≡ cut
-unfolding chunkAt chunkFrom
-stuck-cut [] some short is = absurd (omega arith)
-stuck-cut (byte ∷ rest) some short is = rw (is, lt-leb 7 (length rest) (omega arith))
+    (part : List ℕ) → 1 ≤ length part → length part < 8 → 0xff ≤ getD part 0 0 → chunkAt false part ≡ cut
+stuck-cut [] some short high = absurd (omega arith)
+stuck-cut (byte ∷ rest) some short high = rw (last-row false byte rest high, lt-leb 7 (length rest) (omega arith))
+
+one : 1 ≤ 1
+one = omega arith
+
+-- a chunk of a part brings a pixel, lies within the part, and names one of the 64 slots
+pub record Sound (part : List ℕ) (k : Chunk) : Type 0 where
+  pub once : 1 ≤ timesOf k
+  pub fits : sizeOf k ≤ length part
+  pub slot : SlotFits k
+
+-- what is found in a part
+pub data SoundFound (part : List ℕ) : Found → Type 0 where
+  nothing : SoundFound part cut
+  something : (k : Chunk) → Sound part k → SoundFound part (chunk k)
+
+pub sound-found : (readsRgba : Bool) (part : List ℕ) → SoundFound part (chunkAt readsRgba part)
+unfolding timesOf sizeOf
+sound-found readsRgba part =
+    if-below (length part) 1 (λ none. rw (no-row readsRgba part (omega arith)) nothing)
+    (λ some.
+    if-below (getD part 0 0) 0x40
+    (λ low. rw (index-row readsRgba part some low) (something (INDEX (getD part 0 0)) (record { once = one; fits = some; slot = low })))
+    (λ a.
+    if-below (getD part 0 0) 0x80
+    (λ low. rw (diff-row readsRgba part some a low) (something (DIFF _ _ _) (record { once = one; fits = some; slot = tt })))
+    (λ b.
+    if-below (getD part 0 0) 0xc0
+    (λ low.
+    if-below (length part) 2 (λ short. rw (luma-cut readsRgba part (omega arith) b low) nothing)
+    (λ whole. rw (luma-row readsRgba part whole b low) (something (LUMA _ _ _) (record { once = one; fits = whole; slot = tt }))))
+    (λ c.
+    if-below (getD part 0 0) 0xfe
+    (λ low. rw (run-row readsRgba part some c low) (something (RUN (getD part 0 0 % 64 + 1)) (record { once = omega arith; fits = some; slot = tt })))
+    (λ d.
+    if-below (getD part 0 0) 0xff
+    (λ low.
+    if-below (length part) 4 (λ short. rw (rgb-cut readsRgba part some short (omega arith)) nothing)
+    (λ whole. rw (rgb-row readsRgba part whole (omega arith)) (something (RGB _ _ _) (record { once = one; fits = whole; slot = tt }))))
+    (λ high. last readsRgba part some high))))))
+  where
+    last : (readsRgba : Bool) (part : List ℕ) → 1 ≤ length part → 0xff ≤ getD part 0 0 → SoundFound part (chunkAt readsRgba part)
+    last true part some high =
+        if-below (length part) 5 (λ short. rw (rgba-cut part some short high) nothing)
+        (λ whole. rw (rgba-row part whole high) (something (RGBA _ _ _ _) (record { once = one; fits = whole; slot = tt })))
+    last false part some high =
+        if-below (length part) 8 (λ short. rw (stuck-cut part some short high) nothing)
+        (λ whole. rw (stuck-row part whole high) (something Stuck (record { once = one; fits = zero-le; slot = tt })))

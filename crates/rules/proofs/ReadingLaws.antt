@@ -2,9 +2,9 @@
 -- Assumes nothing.
 use mathlib.Core.Path.{_≡_, refl, ap, _∙_}
 use mathlib.Core.Bool.{Bool, true, false, cond}
-use mathlib.Core.List.{List, [], _∷_}
+use mathlib.Core.List.{List}
 use Prim.Native.Nat.{ℕ, zero, suc, _+_, _-_, _*_, _≤_, _<_, zero-le}
-use native.Mathlib.Nat.{le-refl, add-mul, suc-mul}
+use native.Mathlib.Nat.{add-mul, suc-mul}
 use native.Mathlib.Omega.{arith}
 use borrow.Author.Tests.{ltb-true, le-ltb}
 use lib.Dec.{ltb}
@@ -12,30 +12,9 @@ use lib.ListN.{length, take, drop, length-append, length-take}
 use Rattle.header.specs.declared.Header.{Header}
 use Rattle.header.specs.Header.{pixelCount}
 use Rattle.pixel.specs.Types.{channelsNumber}
-use Rattle.rules.specs.Chunk.{Chunk, Found, cut, chunk, chunkFrom, chunkAt, timesOf, RUN}
+use Rattle.rules.specs.Chunk.{Chunk, Found, chunkAt, timesOf}
+use Rattle.rules.proofs.ChunkLaws.{SoundFound, nothing, something, sound-found}
 use Rattle.rules.specs.Reading.{Way, Place, Answer, Move, more, end, ended, after, remaining, playedAfter, readOn, playOn, repeated, closing, sizeWanted, pixelsBrought, pixelAfter, placeAfter, bytesOf, moveBy, move, played, reading}
-
--- what holds of both holds of the one that a test picks
-cond-both : {A : Type 0} (P : A → Type 0) (b : Bool) {x y : A} → P x → P y → P (cond b x y)
-cond-both P true px py = px
-cond-both P false px py = py
-
--- a chunk that is found brings at least one pixel
-data Brings : Found → Type 0 where
-  nothing : Brings cut
-  some : {k : Chunk} → 1 ≤ timesOf k → Brings (chunk k)
-
-brings-if : (b : Bool) {x y : Found} → Brings x → Brings y → Brings (cond b x y)
-brings-if b p q = cond-both Brings b p q
-
-brings-run : (n : ℕ) → Brings (chunk (RUN (n + 1)))
-unfolding timesOf
-brings-run n = some {k = RUN (n + 1)} (omega arith)
-
-chunk-brings : (readsRgba : Bool) (bytes : List ℕ) → Brings (chunkAt readsRgba bytes)
-unfolding chunkAt chunkFrom timesOf
-chunk-brings readsRgba [] = nothing
-chunk-brings readsRgba (byte ∷ rest) = search (brings-if, brings-run, nothing, some, le-refl) depth 12
 
 -- bytes written so many times over are at most so many times their bound
 repeated-size : (n : ℕ) (bytes : List ℕ) {bound : ℕ} → length bytes ≤ bound → length (repeated n bytes) ≤ n * bound
@@ -52,10 +31,12 @@ module _ (way : Way) (header : Header) (wanted : ℕ) (message : List ℕ) where
         → Moved place (more (placeAfter way header wanted message place k) (bytesOf way header wanted message place k))
     at-end : (answer : Answer) → Moved place (end answer)
 
-  moved-by : (place : Place) → place .pixel < pixelCount header → (f : Found) → Brings f → Moved place (moveBy way header wanted message place f)
+  moved-by :
+      (place : Place) (part : List ℕ) → place .pixel < pixelCount header → (f : Found) → SoundFound part f
+      → Moved place (moveBy way header wanted message place f)
   unfolding moveBy
-  moved-by place missing cut nothing = at-end _
-  moved-by place missing (chunk k) (some b) = by-chunk k b missing
+  moved-by place part missing f nothing = at-end _
+  moved-by place part missing f (something k sound) = by-chunk k (sound .once) missing
 
   pub moved : (place : Place) → Moved place (move way header wanted message place)
   unfolding move
@@ -67,7 +48,7 @@ module _ (way : Way) (header : Header) (wanted : ℕ) (message : List ℕ) where
       go :
           (b : Bool) → ltb (place .pixel) (pixelCount header) ≡ b
           → Moved place (cond b (moveBy way header wanted message place found) (end (closing (sizeWanted way header wanted message) message (place .at))))
-      go true e = moved-by place (ltb-true _ _ e) found (chunk-brings _ _)
+      go true e = moved-by place (drop (place .at) message) (ltb-true _ _ e) found (sound-found _ _)
       go false e = at-end _
 
   -- with no pixel missing a move is the marker test
