@@ -92,6 +92,10 @@ unfoldable pub repeated : ℕ → List ℕ → List ℕ
 repeated zero bytes = []
 repeated (suc n) bytes = bytes ++ repeated n bytes
 
+-- bytes put into an output at a place, and all others as they were
+abbrev pub pasted : ℕ → List ℕ → List ℕ → List ℕ
+pasted at bytes out = take at out ++ (bytes ++ drop (at + length bytes) out)
+
 -- what the message holds after its last chunk: under 8 bytes, refusal 1; not the marker, 8; later bytes are ignored
 unfoldable pub closing : ℕ → List ℕ → ℕ → Answer
 closing size message at =

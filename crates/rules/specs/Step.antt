@@ -1,10 +1,10 @@
 -- Steps: the state that moves on by value, when it is well formed, a start, one step, and so many steps.
 use mathlib.Core.Bool.{Bool, cond, not, _&&_, _||_}
-use mathlib.Core.List.{List, _++_}
+use mathlib.Core.List.{List}
 use mathlib.Core.Path.{_≡_}
-use Prim.Native.Nat.{ℕ, zero, suc, _+_, _*_, _^_, _<_}
+use Prim.Native.Nat.{ℕ, zero, suc, _*_, _^_, _<_}
 use lib.Dec.{ltb, leb, eqb}
-use lib.ListN.{length, getD, take, drop}
+use lib.ListN.{length, getD}
 use Rattle.pixel.specs.declared.error.Error.{Error}
 use Rattle.pixel.specs.declared.error.Error.the-variants.{BadState, OutputBufferTooSmall}
 use Rattle.pixel.specs.declared.types.ChannelsRead.{ChannelsRead}
@@ -15,7 +15,7 @@ use Rattle.header.specs.declared.Header.{Header}
 use Rattle.header.specs.declared.HeaderRead.{HeaderRead}
 use Rattle.header.specs.declared.HeaderRead.the-variants as header-read
 use Rattle.header.specs.Header.{pixelCount, dimensionsFit, headerOf}
-use Rattle.rules.specs.Reading.{Place, Answer, refused, Move, startPlace, move}
+use Rattle.rules.specs.Reading.{Place, Answer, refused, Move, startPlace, move, pasted}
 use Rattle.rules.specs.Decode.{decoder}
 
 -- header, wanted channels, and the place: byte position, pixel position, current pixel, slots
@@ -98,8 +98,7 @@ step s message room =
 
 -- a lent output after a step: the bytes from the state's pixel on, and all others as they were
 abbrev pub steppedOver : State → List ℕ → List ℕ → List ℕ
-steppedOver s bytes out =
-    take (s .place .pixel * s .wanted) out ++ (bytes ++ drop (s .place .pixel * s .wanted + length bytes) out)
+steppedOver s bytes out = pasted (s .place .pixel * s .wanted) bytes out
 
 -- after some steps: the state and the output, with more to do or at the end
 pub data Ran : Type 0 where

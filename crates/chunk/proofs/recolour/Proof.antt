@@ -1,0 +1,108 @@
+-- `chunk::recolour` meets its contract: each arm is that chunk's meaning.
+-- Assumes nothing.
+use borrow.Author.Needs.{needs}
+use Rattle.rules.specs.Chunk.{colourOf}
+use Rattle.chunk.proofs.recolour.Statement.{statement}
+use Rattle.chunk.proofs.recolour.Tie as tie
+
+enum-known-colour : tie.Need-enum-known-colour
+enum-known-colour c = search needs
+
+wrapped-difference-requires : tie.Need-wrapped-difference-requires
+wrapped-difference-requires c κs = search needs
+
+wrapped-difference-requires-2 : tie.Need-wrapped-difference-requires-2
+wrapped-difference-requires-2 c κs = search needs
+
+wrapped-difference-requires-3 : tie.Need-wrapped-difference-requires-3
+wrapped-difference-requires-3 c κs = search needs
+
+shifted-requires : tie.Need-shifted-requires
+shifted-requires c κs = search needs
+
+enum-known-colour-2 : tie.Need-enum-known-colour-2
+enum-known-colour-2 c = search needs
+
+wrapped-difference-requires-4 : tie.Need-wrapped-difference-requires-4
+wrapped-difference-requires-4 c κs = search needs
+
+wrapped-difference-requires-5 : tie.Need-wrapped-difference-requires-5
+wrapped-difference-requires-5 c κs = search needs
+
+wrapped-sum-requires : tie.Need-wrapped-sum-requires
+wrapped-sum-requires c κs = search needs
+
+wrapped-difference-requires-6 : tie.Need-wrapped-difference-requires-6
+wrapped-difference-requires-6 c κs = search needs
+
+wrapped-sum-requires-2 : tie.Need-wrapped-sum-requires-2
+wrapped-sum-requires-2 c κs = search needs
+
+shifted-requires-2 : tie.Need-shifted-requires-2
+shifted-requires-2 c κs = search needs
+
+enum-known-colour-3 : tie.Need-enum-known-colour-3
+enum-known-colour-3 c = search needs
+
+a-requires : tie.Need-a-requires
+a-requires c κs = search needs
+
+new-requires : tie.Need-new-requires
+new-requires c κs = search needs
+
+enum-known-colour-4 : tie.Need-enum-known-colour-4
+enum-known-colour-4 c = search needs
+
+new-requires-2 : tie.Need-new-requires-2
+new-requires-2 c κs = search needs
+
+enum-told : tie.Need-enum-told
+enum-told c = search needs
+
+returns : tie.Need-returns
+unfolding colourOf
+returns c = simp (c .before .before .before .before .before .colour .given .1, c .shifted .ensures, c .before .wrapped-difference3 .ensures, c .before .before .wrapped-difference2 .ensures, c .before .before .before .wrapped-difference .ensures)
+
+returns-2 : tie.Need-returns-2
+unfolding colourOf
+returns-2 c = simp (c .before .before .before .before .before .before .before .colour2 .given .1, c .shifted2 .ensures, c .before .wrapped-sum2 .ensures, c .before .before .wrapped-difference6 .ensures, c .before .before .before .wrapped-sum .ensures, c .before .before .before .before .wrapped-difference5 .ensures, c .before .before .before .before .before .wrapped-difference4 .ensures)
+
+returns-3 : tie.Need-returns-3
+unfolding colourOf
+returns-3 c = simp (c .before .before .before .colour3 .given .1, c .new .ensures, c .before .a .ensures)
+
+returns-4 : tie.Need-returns-4
+unfolding colourOf
+returns-4 c = simp (c .before .before .colour4 .given .1, c .new2 .ensures)
+
+returns-5 : tie.Need-returns-5
+unfolding colourOf
+returns-5 c = simp (c .enum-told .given .1)
+
+pub recolour-spec : {M : Type 1} → statement M
+recolour-spec =
+    tie.close
+    (tie.spec
+    enum-known-colour
+    wrapped-difference-requires
+    wrapped-difference-requires-2
+    wrapped-difference-requires-3
+    shifted-requires
+    enum-known-colour-2
+    wrapped-difference-requires-4
+    wrapped-difference-requires-5
+    wrapped-sum-requires
+    wrapped-difference-requires-6
+    wrapped-sum-requires-2
+    shifted-requires-2
+    enum-known-colour-3
+    a-requires
+    new-requires
+    enum-known-colour-4
+    new-requires-2
+    enum-told
+    returns
+    returns-2
+    returns-3
+    returns-4
+    returns-5)

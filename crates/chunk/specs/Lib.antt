@@ -1,0 +1,2 @@
+-- The definitions of crate `chunk`.
+pub mod Found

@@ -1,0 +1,193 @@
+// One chunk of a message: what its first bytes say, and the pixel that a chunk of colour makes of the one before it.
+ghost use mathlib.Core.Path.{_≡_};
+ghost use mathlib.Core.List.{[], _∷_};
+ghost use Rattle.pixel.specs.Types.{channelsNumber};
+ghost use Rattle.rules.specs.Chunk.{chunkAt, colourOf, sizeOf, shifted as shiftedBy};
+ghost use Rattle.rules.specs.Reading.{sameBytes, marker};
+ghost use Rattle.rules.specs.Decode.{decoderReadsRgba};
+ghost use Rattle.chunk.specs.Found.{foundOf, chunkOf, endingAt};
+use pixel::Pixel;
+use pixel::types::Channels;
+
+// A chunk that makes its pixel from the one before it, and is stored.
+pub enum Colour {
+    // Red, green and blue difference, each plus 2.
+    Diff(u8, u8, u8),
+    // The green difference plus 32; red less green and blue less green, each plus 8.
+    Luma(u8, u8, u8),
+    Rgb(u8, u8, u8),
+    Rgba(u8, u8, u8, u8),
+    // An ff that is not consumed: the previous pixel again.
+    Stuck,
+}
+
+// What a part of a message starts with.
+pub enum Found {
+    // A chunk whose bytes are not all there.
+    Cut,
+    // The pixel of that slot.
+    Index(u8),
+    // The previous pixel, so many times.
+    Run(u8),
+    Colour(Colour),
+}
+
+// The chunk that a part starts with, in a source of these channels.
+pub fn read(source: Channels, part: &[u8]) -> Found
+    ensures { λ r. ⌜ foundOf r ≡ chunkAt (decoderReadsRgba (channelsNumber source)) (now (part .entry)) ⌝ }
+{
+    if part.len() == 0 {
+        return Found::Cut;
+    }
+    let byte = part[0];
+    if byte < 0x40 {
+        return Found::Index(byte);
+    }
+    if byte < 0x80 {
+        return Found::Colour(Colour::Diff(byte / 16 % 4, byte / 4 % 4, byte % 4));
+    }
+    if byte < 0xc0 {
+        if part.len() < 2 {
+            return Found::Cut;
+        }
+        let second = part[1];
+        return Found::Colour(Colour::Luma(byte % 64, second / 16, second % 16));
+    }
+    if byte < 0xfe {
+        return Found::Run(byte % 64 + 1);
+    }
+    if byte < 0xff {
+        if part.len() < 4 {
+            return Found::Cut;
+        }
+        return Found::Colour(Colour::Rgb(part[1], part[2], part[3]));
+    }
+    match source {
+        Channels::Rgba => {
+            if part.len() < 5 {
+                return Found::Cut;
+            }
+            Found::Colour(Colour::Rgba(part[1], part[2], part[3], part[4]))
+        }
+        Channels::Rgb => {
+            if part.len() < 8 {
+                return Found::Cut;
+            }
+            Found::Colour(Colour::Stuck)
+        }
+    }
+}
+
+// What follows the last pixel: the marker, other bytes, or too few.
+pub enum Ending {
+    Cut,
+    Wrong,
+    Marker,
+}
+
+// The marker test of a part.
+pub fn read_end(part: &[u8]) -> Ending
+    ensures { λ r. ⌜ r ≡ endingAt (now (part .entry)) ⌝ }
+{
+    if part.len() < 8 {
+        return Ending::Cut;
+    }
+    if is_marker(
+        part[0],
+        part[1],
+        part[2],
+        part[3],
+        part[4],
+        part[5],
+        part[6],
+        part[7],
+    ) {
+        Ending::Marker
+    } else {
+        Ending::Wrong
+    }
+}
+
+// Seven 00 and one 01.
+fn is_marker(a: u8, b: u8, c: u8, d: u8, e: u8, f: u8, g: u8, h: u8) -> bool
+    ensures { λ r. ⌜ r ≡ sameBytes (a ∷ b ∷ c ∷ d ∷ e ∷ f ∷ g ∷ h ∷ []) marker ⌝ }
+{
+    if a != 0 {
+        return false;
+    }
+    if b != 0 {
+        return false;
+    }
+    if c != 0 {
+        return false;
+    }
+    if d != 0 {
+        return false;
+    }
+    if e != 0 {
+        return false;
+    }
+    if f != 0 {
+        return false;
+    }
+    if g != 0 {
+        return false;
+    }
+    if h != 1 {
+        return false;
+    }
+    true
+}
+
+// The pixel that a chunk of colour makes of the previous one.
+pub fn recolour(previous: Pixel, colour: Colour) -> Pixel
+    ensures { λ r. ⌜ r ≡ colourOf [] previous (chunkOf colour) ⌝ }
+{
+    match colour {
+        Colour::Diff(r, g, b) => {
+            shifted(
+                previous,
+                pixel::wrapped_difference(r, 2),
+                pixel::wrapped_difference(g, 2),
+                pixel::wrapped_difference(b, 2),
+            )
+        }
+        Colour::Luma(g, r, b) => {
+            let green = pixel::wrapped_difference(g, 32);
+            shifted(
+                previous,
+                pixel::wrapped_sum(green, pixel::wrapped_difference(r, 8)),
+                green,
+                pixel::wrapped_sum(green, pixel::wrapped_difference(b, 8)),
+            )
+        }
+        Colour::Rgb(r, g, b) => Pixel::new(r, g, b, previous.a()),
+        Colour::Rgba(r, g, b, a) => Pixel::new(r, g, b, a),
+        Colour::Stuck => previous,
+    }
+}
+
+// How many bytes of the message a chunk of colour takes.
+pub fn size(colour: Colour) -> usize
+    ensures { λ r. ⌜ r ≡ sizeOf (chunkOf colour) ⌝ }
+{
+    match colour {
+        Colour::Diff(_, _, _) => 1,
+        Colour::Luma(_, _, _) => 2,
+        Colour::Rgb(_, _, _) => 4,
+        Colour::Rgba(_, _, _, _) => 5,
+        Colour::Stuck => 0,
+    }
+}
+
+// A pixel with a difference added to each colour.
+fn shifted(p: Pixel, r: u8, g: u8, b: u8) -> Pixel
+    ensures { λ q. ⌜ q ≡ shiftedBy p r g b ⌝ }
+{
+    Pixel::new(
+        pixel::wrapped_sum(p.r(), r),
+        pixel::wrapped_sum(p.g(), g),
+        pixel::wrapped_sum(p.b(), b),
+        p.a(),
+    )
+}

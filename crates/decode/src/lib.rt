@@ -1,0 +1,52 @@
+// The whole decode of a message into a lent output, and the rest of a message after it.
+ghost use mathlib.Core.Path.{_≡_};
+ghost use lib.ListN.{length};
+ghost use Rattle.rules.specs.Decode.{decoding, writtenOver, restOf};
+ghost use Rattle.decode.specs.Decoded.{answerOf};
+use header::Header;
+use header::HeaderRead;
+use pixel::error::Error;
+use pixel::types::Channels;
+
+mod inner;
+
+pub enum Decoded {
+    // Bytes written, and message bytes used: header, chunks and marker.
+    Done { size: usize, used: usize },
+    Refused(Error),
+}
+
+// Decodes a message to 3 or 4 wanted channels. Of a longer output only the first bytes are used.
+pub fn decode(message: &[u8], wanted: u64, out: &mut [u8]) -> Decoded
+    ensures { λ r. ⌜ (answerOf r ≡ decoding (now (message .entry)) wanted (length (now (out .entry))) .answer) × (now (out .exit) ≡ writtenOver (decoding (now (message .entry)) wanted (length (now (out .entry))) .bytes) (now (out .entry))) ⌝ }
+{
+    match Header::decode(message) {
+        HeaderRead::Refused(e) => Decoded::Refused(e),
+        HeaderRead::Ok(header) => inner::with_wanted(
+            message,
+            header,
+            Channels::try_from(wanted),
+            out,
+        ),
+    }
+}
+
+// What follows a decoded message; after a refusal the empty part at its end, and so for any answer that no decode of it gave.
+pub fn rest(message: &[u8], decoded: Decoded) -> &[u8]
+    ensures { λ r. ⌜ now r ≡ restOf (now (message .entry)) (answerOf decoded) ⌝ }
+{
+    match decoded {
+        Decoded::Refused(_) => {
+            let end = message.len();
+            &message[end..]
+        }
+        Decoded::Done { size: _, used } => {
+            if used <= message.len() {
+                &message[used..]
+            } else {
+                let end = message.len();
+                &message[end..]
+            }
+        }
+    }
+}
