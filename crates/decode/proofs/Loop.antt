@@ -1,13 +1,13 @@
 -- The decode's loop over the chunks, for every number of wanted channels: what holds at its head, what a chunk makes of it, and how it ends.
 -- Assumes nothing.
 use mathlib.Core.Path.{_≡_, refl, sym, _∙_, ap, ap₂}
-use mathlib.Core.Bool.{Bool, true, false, cond, _&&_}
+use mathlib.Core.Bool.{Bool, true, false, cond}
 use mathlib.Core.List.{List, [], _∷_, _++_, append-assoc, append-nil}
 use Prim.Native.Nat.{ℕ, zero, suc, _+_, _-_, _*_, _≤_, _<_, min, zero-le}
 use native.Mathlib.Nat.{add-mul, zero-mul, mul-le-mul-right}
 use native.Mathlib.Omega.{arith}
 use borrow.Author.Tests.{lt-ltb}
-use lib.Dec.{T, leb, leb→le, eqb}
+use lib.Dec.{eqb}
 use lib.ListN.{length, getD, take, drop, set, replicate, length-set, length-drop, take-append-drop, getD-replicate}
 use lib.Seq.{length-take-le, drop-drop}
 use Rattle.pixel.specs.declared.Pixel.{Pixel}
@@ -16,7 +16,7 @@ use Rattle.pixel.specs.Colour.{startPixel, clearPixel, slotOf, withAlpha}
 use Rattle.pixel.specs.Types.{channelsNumber}
 use Rattle.pixel.specs.declared.types.Channels.{Channels}
 use Rattle.header.specs.declared.Header.{Header}
-use Rattle.header.specs.Header.{pixelCount, dimensionsFit}
+use Rattle.header.specs.Header.{pixelCount}
 use Rattle.rules.specs.Chunk.{Chunk, cut, chunk, chunkAt, colourOf, timesOf, sizeOf, INDEX, DIFF, LUMA, RUN, RGB, RGBA, Stuck}
 use Rattle.rules.specs.Reading.{Place, Answer, refused, Reading, silent, after, readOn, more, end, move, moveBy, remaining, startPlace, closing, pasted, repeated, pixelsBrought, pixelAfter, placeAfter, bytesOf}
 use Rattle.rules.specs.Decode.{decoder, decoderStores, decoderKeeps, decoderReadsRgba, writtenOver}
@@ -35,14 +35,6 @@ use Rattle.decode.proofs.Pasting.{take-pasted, drop-pasted, length-past
 pub slot-below : (p : Pixel) → slotOf p < 64
 unfolding slotOf
 slot-below p = omega arith
-
--- 400,000,000 pixels at most
-pub pixels-small : (h : Header) → T (dimensionsFit (h .width) (h .height)) → pixelCount h ≤ 400000000
-pixels-small h t = leb→le (pixelCount h) 400000000 (both (leb 1 (pixelCount h)) _ t)
-  where
-    both : (a b : Bool) → T (a && b) → T b
-    both true b t = t
-    both false b t = absurd t
 
 -- four bytes a pixel, 64 slots
 pub record Shaped (slots : List Pixel) (current : Pixel) : Type 0 where
@@ -96,10 +88,11 @@ after-after a b r = λ i. record { answer = r .answer; bytes = append-assoc a b 
 sound-of : {part : List ℕ} {k : Chunk} → SoundFound part (chunk k) → Sound part k
 sound-of (something k s) = s
 
-module _ (header : Header) (wanted : ℕ) (message : List ℕ) where
-  abbrev pub placeOf : ℕ → ℕ → Pixel → List Pixel → Place
-  placeOf at pixel current slots = record { at = at; pixel = pixel; current = current; slots = slots }
+-- the place that the loop's locals are
+abbrev pub placeOf : ℕ → ℕ → Pixel → List Pixel → Place
+placeOf at pixel current slots = record { at = at; pixel = pixel; current = current; slots = slots }
 
+module _ (header : Header) (wanted : ℕ) (message : List ℕ) where
   -- at the loop's head: what stands before the pixel, followed by the reading from here, is the whole reading; what stands after is as it was
   pub record Going (out₀ out : List ℕ) (slots : List Pixel) (current : Pixel) (at pixel : ℕ) : Type 0 where
     pub within : pixel ≤ pixelCount header
@@ -181,31 +174,31 @@ module _ (header : Header) (wanted : ℕ) (message : List ℕ) where
       sound = sound-of (rw found at (sound-found (decoderReadsRgba (channelsNumber (header .channels))) (drop at message)))
 
       abbrev next : Place
-      next = placeAfter decoder header wanted message here k
+      next = placeAfter decoder header wanted here k
 
       abbrev bytes : List ℕ
-      bytes = bytesOf decoder header wanted message here k
+      bytes = bytesOf decoder header wanted here k
 
-      four : length (pixelAfter decoder header wanted message here k .rgba) ≡ 4
+      four : length (pixelAfter decoder wanted here k .rgba) ≡ 4
       unfolding pixelAfter
       four = kept-shaped wanted (colourOf slots current k) (colour-shaped slots current (g .shaped) k (sound .slot))
 
-      bytes-length : length bytes ≡ pixelsBrought decoder header wanted message here k * wanted
+      bytes-length : length bytes ≡ pixelsBrought header here k * wanted
       unfolding bytesOf
       bytes-length =
-          repeated-length (pixelsBrought decoder header wanted message here k) (take wanted (pixelAfter decoder header wanted message here k .rgba))
-          ∙ ap (λ (n : ℕ). pixelsBrought decoder header wanted message here k * n)
-          (length-take-le wanted (pixelAfter decoder header wanted message here k .rgba) (omega (arith, four)))
+          repeated-length (pixelsBrought header here k) (take wanted (pixelAfter decoder wanted here k .rgba))
+          ∙ ap (λ (n : ℕ). pixelsBrought header here k * n)
+          (length-take-le wanted (pixelAfter decoder wanted here k .rgba) (omega (arith, four)))
 
       -- the next pixel's place in the output is where the bytes end
       reached : next .pixel * wanted ≡ pixel * wanted + length bytes
       unfolding placeAfter
-      reached = rw (bytes-length) (add-mul pixel (pixelsBrought decoder header wanted message here k) wanted)
+      reached = rw (bytes-length) (add-mul pixel (pixelsBrought header here k) wanted)
 
       fits : pixel * wanted + length bytes ≤ length out
       fits =
           omega
-          (arith, reached, g .same-length, mul-le-mul-right wanted (stays-within decoder header wanted message here k (g .within)))
+          (arith, reached, g .same-length, mul-le-mul-right wanted (stays-within decoder header wanted here k (g .within)))
 
       moves : move decoder header wanted message here ≡ more next bytes
       unfolding move moveBy
@@ -218,14 +211,14 @@ module _ (header : Header) (wanted : ℕ) (message : List ℕ) where
       shaped-next : Shaped (next .slots) (next .current)
       unfolding placeAfter
       shaped-next =
-          stored-shaped (decoderStores k) slots current (pixelAfter decoder header wanted message here k) (g .shaped) four
+          stored-shaped (decoderStores k) slots current (pixelAfter decoder wanted here k) (g .shaped) four
 
       pub goes-on :
           (out′ : List ℕ) → out′ ≡ pasted (pixel * wanted) bytes out
           → Going out₀ out′ (next .slots) (next .current) (next .at) (next .pixel)
       goes-on out′ written =
           record {
-            within = stays-within decoder header wanted message here k (g .within);
+            within = stays-within decoder header wanted here k (g .within);
             inside = inside-next;
             same-length = ap length written ∙ length-pasted out (pixel * wanted) bytes fits ∙ g .same-length;
             shaped = shaped-next;
@@ -350,8 +343,8 @@ module _ (header : Header) (wanted : ℕ) (message out₀ : List ℕ) (pixels : 
     -- the loop's head after a chunk, said by the place after it
     headed :
         (k : Chunk) → chunkAt (decoderReadsRgba (channelsNumber (header .channels))) (drop at message) ≡ chunk k
-        → (out′ : List ℕ) → out′ ≡ pasted (pixel * wanted) (bytesOf decoder header wanted message (placeOf header wanted message at pixel current slots) k) out
-        → (next : Place) → placeAfter decoder header wanted message (placeOf header wanted message at pixel current slots) k ≡ next
+        → (out′ : List ℕ) → out′ ≡ pasted (pixel * wanted) (bytesOf decoder header wanted (placeOf at pixel current slots) k) out
+        → (next : Place) → placeAfter decoder header wanted (placeOf at pixel current slots) k ≡ next
         → Head header wanted message out₀ pixels source out′ (next .slots) (next .current) (next .at) (next .pixel)
     unfolding placeAfter pixelAfter
     headed k f out′ written next is =
@@ -369,8 +362,8 @@ module _ (header : Header) (wanted : ℕ) (message out₀ : List ℕ) (pixels : 
     -- the same, said by the pixel, how often it came, and the slots then
     headed-by :
         (k : Chunk) → chunkAt (decoderReadsRgba (channelsNumber (header .channels))) (drop at message) ≡ chunk k
-        → (n : ℕ) → pixelsBrought decoder header wanted message (placeOf header wanted message at pixel current slots) k ≡ n
-        → (p : Pixel) → pixelAfter decoder header wanted message (placeOf header wanted message at pixel current slots) k ≡ p
+        → (n : ℕ) → pixelsBrought header (placeOf at pixel current slots) k ≡ n
+        → (p : Pixel) → pixelAfter decoder wanted (placeOf at pixel current slots) k ≡ p
         → (slots′ : List Pixel) → cond (decoderStores k) (set slots (slotOf p) p) slots ≡ slots′
         → (out′ : List ℕ) → out′ ≡ pasted (pixel * wanted) (repeated n (bytes p)) out
         → Head header wanted message out₀ pixels source out′ slots′ p (at + sizeOf k) (pixel + n)
@@ -383,7 +376,7 @@ module _ (header : Header) (wanted : ℕ) (message out₀ : List ℕ) (pixels : 
         ∙ ap (λ (b : List ℕ). pasted (pixel * wanted) (repeated n b) out) (first p shape)
         ∙ ap (λ (b : List ℕ). pasted (pixel * wanted) b out)
         (sym (ap₂ (λ (m : ℕ) (q : Pixel). repeated m (take wanted (q .rgba))) often brings)))
-        (placeOf header wanted message (at + sizeOf k) (pixel + n) p slots′)
+        (placeOf (at + sizeOf k) (pixel + n) p slots′)
         (λ i.
         record {
           at = at + sizeOf k;

@@ -1,11 +1,11 @@
 -- The laws of the header: its bytes read back, how many they are and how large, and what an accepted header is like.
 use mathlib.Core.Path.{_≡_, refl}
-use mathlib.Core.Bool.{Bool, true, false, cond}
+use mathlib.Core.Bool.{Bool, true, false, cond, _&&_}
 use mathlib.Core.List.{List, [], _∷_, _++_}
 use Prim.Native.Nat.{ℕ, zero, suc, _*_, _/_, _%_, _^_, _≤_, _<_}
 use native.Mathlib.Nat.{le-of-lt, lt-of-le-of-lt, mul-le-mul-left, mul-lt-mul-of-pos-right, mod-eq-of-lt, div-div-eq-div-mul}
 use native.Mathlib.Omega.{arith}
-use lib.Dec.{T, ltb, eqb, lit<}
+use lib.Dec.{T, ltb, leb, eqb, leb→le, lit<}
 use lib.ListN.{length, getD}
 use borrow.Author.Needs.{needs}
 use borrow.Author.Tests.{le-ltb, ltb-false}
@@ -22,7 +22,7 @@ use Rattle.pixel.specs.declared.types.ColorSpaceRead.the-variants as colorspace
 use Rattle.header.specs.declared.Header.{Header}
 use Rattle.header.specs.declared.HeaderRead.{HeaderRead}
 use Rattle.header.specs.declared.HeaderRead.the-variants.{Ok, Refused}
-use Rattle.header.specs.Header.{dimensionsFit, bigEndian, headerBytes, headerFrom, magicNumber, numberAt, afterColorSpace, afterChannels, headerOf}
+use Rattle.header.specs.Header.{pixelCount, dimensionsFit, bigEndian, headerBytes, headerFrom, magicNumber, numberAt, afterColorSpace, afterChannels, headerOf}
 
 -- two numbers of 32 bits have a product of 64
 pub product-fits : {a b : ℕ} → a < 2 ^ 32 → b < 2 ^ 32 → a * b < 2 ^ 64
@@ -43,9 +43,19 @@ color-space-read-back : (s : ColorSpace) → colorSpaceFrom (colorSpaceNumber s)
 color-space-read-back Srgb = refl
 color-space-read-back Linear = refl
 
-is-true : (b : Bool) → T b → b ≡ true
+-- a test that holds is true
+pub is-true : (b : Bool) → T b → b ≡ true
 is-true true t = refl
 is-true false t = absurd t
+
+-- both of two tests hold
+pub both : (a b : Bool) → T (a && b) → T a × T b
+both true b t = (tt, t)
+both false b t = absurd t
+
+-- dimensions that fit have 400,000,000 pixels at most
+pub pixels-small : (h : Header) → T (dimensionsFit (h .width) (h .height)) → pixelCount h ≤ 400000000
+pixels-small h t = leb→le (pixelCount h) 400000000 (both (leb 1 (pixelCount h)) _ t .1)
 
 -- the header's bytes read back, whatever follows
 pub header-read-back :

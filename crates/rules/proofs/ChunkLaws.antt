@@ -38,11 +38,13 @@ unfolding chunkAt chunkFrom
 last-row readsRgba byte rest high =
     rw (le-ltb byte 0x40 (omega arith), le-ltb byte 0x80 (omega arith), le-ltb byte 0xc0 (omega arith), le-ltb byte 0xfe (omega arith), le-ltb byte 0xff high)
 
+-- an empty part has no chunk
 pub no-row : (readsRgba : Bool) (part : List ℕ) → length part ≡ 0 → chunkAt readsRgba part ≡ cut
 unfolding chunkAt
 no-row readsRgba [] none = refl
 no-row readsRgba (byte ∷ rest) none = absurd (omega arith)
 
+-- 00..3f: INDEX of that slot
 pub index-row :
     (readsRgba : Bool) (part : List ℕ) → 1 ≤ length part → getD part 0 0 < 0x40
     → chunkAt readsRgba part ≡ chunk (INDEX (getD part 0 0))
@@ -50,6 +52,7 @@ unfolding chunkAt chunkFrom
 index-row readsRgba [] whole low = absurd (omega arith)
 index-row readsRgba (byte ∷ rest) whole low = rw (lt-ltb byte 0x40 low)
 
+-- 40..7f: DIFF, three 2-bit differences, r high
 pub diff-row :
     (readsRgba : Bool) (part : List ℕ) → 1 ≤ length part → 0x40 ≤ getD part 0 0 → getD part 0 0 < 0x80
     → chunkAt readsRgba part ≡ chunk (DIFF (getD part 0 0 / 16 % 4) (getD part 0 0 / 4 % 4) (getD part 0 0 % 4))
@@ -57,6 +60,7 @@ unfolding chunkAt chunkFrom
 diff-row readsRgba [] whole high low = absurd (omega arith)
 diff-row readsRgba (byte ∷ rest) whole high low = rw (le-ltb byte 0x40 high, lt-ltb byte 0x80 low)
 
+-- 80..bf and one more: LUMA
 pub luma-row :
     (readsRgba : Bool) (part : List ℕ) → 2 ≤ length part → 0x80 ≤ getD part 0 0 → getD part 0 0 < 0xc0
     → chunkAt readsRgba part ≡ chunk (LUMA (getD part 0 0 % 64) (getD part 1 0 / 16) (getD part 1 0 % 16))
@@ -65,6 +69,7 @@ luma-row readsRgba [] whole high low = absurd (omega arith)
 luma-row readsRgba (byte ∷ rest) whole high low =
     rw (le-ltb byte 0x40 (omega arith), le-ltb byte 0x80 high, lt-ltb byte 0xc0 low, le-leb 1 (length rest) (omega arith))
 
+-- 80..bf alone is cut
 pub luma-cut :
     (readsRgba : Bool) (part : List ℕ) → length part ≡ 1 → 0x80 ≤ getD part 0 0 → getD part 0 0 < 0xc0
     → chunkAt readsRgba part ≡ cut
@@ -73,6 +78,7 @@ luma-cut readsRgba [] short high low = absurd (omega arith)
 luma-cut readsRgba (byte ∷ rest) short high low =
     rw (le-ltb byte 0x40 (omega arith), le-ltb byte 0x80 high, lt-ltb byte 0xc0 low, lt-leb 1 (length rest) (omega arith))
 
+-- c0..fd: RUN, low six bits plus 1 times
 pub run-row :
     (readsRgba : Bool) (part : List ℕ) → 1 ≤ length part → 0xc0 ≤ getD part 0 0 → getD part 0 0 < 0xfe
     → chunkAt readsRgba part ≡ chunk (RUN (getD part 0 0 % 64 + 1))
@@ -81,6 +87,7 @@ run-row readsRgba [] whole high low = absurd (omega arith)
 run-row readsRgba (byte ∷ rest) whole high low =
     rw (le-ltb byte 0x40 (omega arith), le-ltb byte 0x80 (omega arith), le-ltb byte 0xc0 high, lt-ltb byte 0xfe low)
 
+-- fe and three more: RGB
 pub rgb-row :
     (readsRgba : Bool) (part : List ℕ) → 4 ≤ length part → getD part 0 0 ≡ 0xfe
     → chunkAt readsRgba part ≡ chunk (RGB (getD part 1 0) (getD part 2 0) (getD part 3 0))
@@ -88,6 +95,7 @@ unfolding chunkAt chunkFrom
 rgb-row readsRgba [] whole is = absurd (omega arith)
 rgb-row readsRgba (byte ∷ rest) whole is = rw (is, le-leb 3 (length rest) (omega arith))
 
+-- fe and fewer is cut
 pub rgb-cut :
     (readsRgba : Bool) (part : List ℕ) → 1 ≤ length part → length part < 4 → getD part 0 0 ≡ 0xfe
     → chunkAt readsRgba part ≡ cut
@@ -95,26 +103,31 @@ unfolding chunkAt chunkFrom
 rgb-cut readsRgba [] some short is = absurd (omega arith)
 rgb-cut readsRgba (byte ∷ rest) some short is = rw (is, lt-leb 3 (length rest) (omega arith))
 
+-- ff and four more, where it is read: RGBA
 pub rgba-row :
     (part : List ℕ) → 5 ≤ length part → 0xff ≤ getD part 0 0
     → chunkAt true part ≡ chunk (RGBA (getD part 1 0) (getD part 2 0) (getD part 3 0) (getD part 4 0))
 rgba-row [] whole high = absurd (omega arith)
 rgba-row (byte ∷ rest) whole high = rw (last-row true byte rest high, le-leb 4 (length rest) (omega arith))
 
+-- ff and fewer, where it is read, is cut
 pub rgba-cut :
     (part : List ℕ) → 1 ≤ length part → length part < 5 → 0xff ≤ getD part 0 0 → chunkAt true part ≡ cut
 rgba-cut [] some short high = absurd (omega arith)
 rgba-cut (byte ∷ rest) some short high = rw (last-row true byte rest high, lt-leb 4 (length rest) (omega arith))
 
+-- ff where it is not read, with 8 bytes left, is stuck
 pub stuck-row : (part : List ℕ) → 8 ≤ length part → 0xff ≤ getD part 0 0 → chunkAt false part ≡ chunk Stuck
 stuck-row [] whole high = absurd (omega arith)
 stuck-row (byte ∷ rest) whole high = rw (last-row false byte rest high, le-leb 7 (length rest) (omega arith))
 
+-- ff where it is not read, with fewer left, is cut
 pub stuck-cut :
     (part : List ℕ) → 1 ≤ length part → length part < 8 → 0xff ≤ getD part 0 0 → chunkAt false part ≡ cut
 stuck-cut [] some short high = absurd (omega arith)
 stuck-cut (byte ∷ rest) some short high = rw (last-row false byte rest high, lt-leb 7 (length rest) (omega arith))
 
+-- a single pixel is at least one
 one : 1 ≤ 1
 one = omega arith
 
@@ -129,6 +142,7 @@ pub data SoundFound (part : List ℕ) : Found → Type 0 where
   nothing : SoundFound part cut
   something : (k : Chunk) → Sound part k → SoundFound part (chunk k)
 
+-- whatever is found in a part keeps to it
 pub sound-found : (readsRgba : Bool) (part : List ℕ) → SoundFound part (chunkAt readsRgba part)
 unfolding timesOf sizeOf
 sound-found readsRgba part =

@@ -23,22 +23,56 @@ repeated-size zero bytes fits = zero-le
 repeated-size (suc n) bytes {bound} fits =
     simp (length-append, suc-mul) (omega (arith, repeated-size n bytes fits))
 
-module _ (way : Way) (header : Header) (wanted : ℕ) (message : List ℕ) where
+module _ (way : Way) (header : Header) (wanted : ℕ) where
   -- the two kinds of move: by a chunk that brings a pixel where one is missing, and the end
   pub data Moved (place : Place) : Move → Type 0 where
     by-chunk :
         (k : Chunk) → 1 ≤ timesOf k → place .pixel < pixelCount header
-        → Moved place (more (placeAfter way header wanted message place k) (bytesOf way header wanted message place k))
+        → Moved place (more (placeAfter way header wanted place k) (bytesOf way header wanted place k))
     at-end : (answer : Answer) → Moved place (end answer)
 
+  -- what is found at a place where a pixel is missing makes a move of one kind or the other
   moved-by :
       (place : Place) (part : List ℕ) → place .pixel < pixelCount header → (f : Found) → SoundFound part f
-      → Moved place (moveBy way header wanted message place f)
+      → Moved place (moveBy way header wanted place f)
   unfolding moveBy
   moved-by place part missing f nothing = at-end _
   moved-by place part missing f (something k sound) = by-chunk k (sound .once) missing
 
-  pub moved : (place : Place) → Moved place (move way header wanted message place)
+  -- a chunk that brings a pixel moves the pixel position on
+  pub advances :
+      (place : Place) (k : Chunk) → 1 ≤ timesOf k → place .pixel < pixelCount header
+      → place .pixel < placeAfter way header wanted place k .pixel
+  unfolding placeAfter pixelsBrought
+  advances place k once missing = omega arith
+
+  -- the pixel position never passes the picture
+  pub stays-within :
+      (place : Place) (k : Chunk) → place .pixel ≤ pixelCount header
+      → placeAfter way header wanted place k .pixel ≤ pixelCount header
+  unfolding placeAfter pixelsBrought
+  stays-within place k within = omega arith
+
+  -- a chunk writes at most its pixels
+  chunk-size :
+      (place : Place) (k : Chunk)
+      → length (bytesOf way header wanted place k) ≤ pixelsBrought header place k * wanted
+  unfolding bytesOf
+  chunk-size place k =
+      repeated-size (pixelsBrought header place k) (take wanted (pixelAfter way wanted place k .rgba))
+      (simp length-take (omega arith))
+
+  -- the pixels missing before a chunk are those that it brings and those missing after it
+  missing-split :
+      (place : Place) (k : Chunk) → place .pixel ≤ pixelCount header
+      → pixelCount header - place .pixel
+      ≡ pixelsBrought header place k + (pixelCount header - placeAfter way header wanted place k .pixel)
+  unfolding placeAfter pixelsBrought
+  missing-split place k within = omega arith
+
+module _ (way : Way) (header : Header) (wanted : ℕ) (message : List ℕ) where
+  -- each move brings a pixel or is the end
+  pub moved : (place : Place) → Moved way header wanted place (move way header wanted message place)
   unfolding move
   moved place = go (ltb (place .pixel) (pixelCount header)) refl
     where
@@ -47,29 +81,16 @@ module _ (way : Way) (header : Header) (wanted : ℕ) (message : List ℕ) where
 
       go :
           (b : Bool) → ltb (place .pixel) (pixelCount header) ≡ b
-          → Moved place (cond b (moveBy way header wanted message place found) (end (closing (sizeWanted way header wanted message) message (place .at))))
-      go true e = moved-by place (drop (place .at) message) (ltb-true _ _ e) found (sound-found _ _)
+          → Moved way header wanted place (cond b (moveBy way header wanted place found) (end (closing (sizeWanted header wanted) message (place .at))))
+      go true e = moved-by way header wanted place (drop (place .at) message) (ltb-true _ _ e) found (sound-found _ _)
       go false e = at-end _
 
   -- with no pixel missing a move is the marker test
   pub moved-last :
       (place : Place) → pixelCount header ≤ place .pixel
-      → move way header wanted message place ≡ end (closing (sizeWanted way header wanted message) message (place .at))
+      → move way header wanted message place ≡ end (closing (sizeWanted header wanted) message (place .at))
   unfolding move
   moved-last place none = rw (le-ltb (place .pixel) (pixelCount header) none)
-
-  -- a chunk that brings a pixel moves the pixel position on, and never past the picture
-  pub advances :
-      (place : Place) (k : Chunk) → 1 ≤ timesOf k → place .pixel < pixelCount header
-      → place .pixel < placeAfter way header wanted message place k .pixel
-  unfolding placeAfter pixelsBrought
-  advances place k once missing = omega arith
-
-  pub stays-within :
-      (place : Place) (k : Chunk) → place .pixel ≤ pixelCount header
-      → placeAfter way header wanted message place k .pixel ≤ pixelCount header
-  unfolding placeAfter pixelsBrought
-  stays-within place k within = omega arith
 
   -- the end comes within the pixels missing plus one moves, and is the reading's
   pub reading-ends :
@@ -81,12 +102,12 @@ module _ (way : Way) (header : Header) (wanted : ℕ) (message : List ℕ) where
     where
       go :
           ((next : Place) → pixelCount header ≤ next .pixel + n → played way header wanted message (suc n) next ≡ ended (reading way header wanted message n next))
-          → (m : Move) → Moved place m
+          → (m : Move) → Moved way header wanted place m
           → playOn (played way header wanted message (suc n)) m ≡ ended (readOn (reading way header wanted message n) m)
       go ih m (at-end answer) = refl
       go ih m (by-chunk k once missing) =
-          ap (playedAfter (bytesOf way header wanted message place k))
-          (ih (placeAfter way header wanted message place k) (omega (arith, advances place k once missing)))
+          ap (playedAfter (bytesOf way header wanted place k))
+          (ih (placeAfter way header wanted place k) (omega (arith, advances way header wanted place k once missing)))
 
   -- a reading is the same with any fuel that is enough
   reading-enough :
@@ -101,12 +122,12 @@ module _ (way : Way) (header : Header) (wanted : ℕ) (message : List ℕ) where
       go :
           ((next : Place) → pixelCount header ≤ next .pixel + n → pixelCount header ≤ next .pixel + m
           → reading way header wanted message n next ≡ reading way header wanted message m next)
-          → (v : Move) → Moved place v
+          → (v : Move) → Moved way header wanted place v
           → readOn (reading way header wanted message n) v ≡ readOn (reading way header wanted message m) v
       go ih v (at-end answer) = refl
       go ih v (by-chunk k once missing) =
-          ap (after (bytesOf way header wanted message place k))
-          (ih (placeAfter way header wanted message place k) (omega (arith, advances place k once missing)) (omega (arith, advances place k once missing)))
+          ap (after (bytesOf way header wanted place k))
+          (ih (placeAfter way header wanted place k) (omega (arith, advances way header wanted place k once missing)) (omega (arith, advances way header wanted place k once missing)))
 
   -- the reading from a place is a move and then the reading from where it leads
   pub remaining-unfolds :
@@ -119,28 +140,12 @@ module _ (way : Way) (header : Header) (wanted : ℕ) (message : List ℕ) where
       ∙ step (move way header wanted message place) (moved place)
     where
       step :
-          (v : Move) → Moved place v
+          (v : Move) → Moved way header wanted place v
           → readOn (reading way header wanted message (pixelCount header - place .pixel)) v ≡ readOn (remaining way header wanted message) v
       step v (at-end answer) = refl
       step v (by-chunk k once missing) =
-          ap (after (bytesOf way header wanted message place k))
-          (reading-enough (pixelCount header - place .pixel) (pixelCount header - placeAfter way header wanted message place k .pixel) (placeAfter way header wanted message place k) (omega (arith, advances place k once missing)) (omega arith))
-
-  -- a chunk writes at most its pixels
-  chunk-size :
-      (place : Place) (k : Chunk)
-      → length (bytesOf way header wanted message place k) ≤ pixelsBrought way header wanted message place k * wanted
-  unfolding bytesOf
-  chunk-size place k =
-      repeated-size (pixelsBrought way header wanted message place k) (take wanted (pixelAfter way header wanted message place k .rgba))
-      (simp length-take (omega arith))
-
-  missing-split :
-      (place : Place) (k : Chunk) → place .pixel ≤ pixelCount header
-      → pixelCount header - place .pixel
-      ≡ pixelsBrought way header wanted message place k + (pixelCount header - placeAfter way header wanted message place k .pixel)
-  unfolding placeAfter pixelsBrought
-  missing-split place k within = omega arith
+          ap (after (bytesOf way header wanted place k))
+          (reading-enough (pixelCount header - place .pixel) (pixelCount header - placeAfter way header wanted place k .pixel) (placeAfter way header wanted place k) (omega (arith, advances way header wanted place k once missing)) (omega arith))
 
   -- a reading never writes more bytes than the pixels missing times wanted
   pub reading-size :
@@ -152,10 +157,10 @@ module _ (way : Way) (header : Header) (wanted : ℕ) (message : List ℕ) where
     where
       go :
           ((next : Place) → length (reading way header wanted message n next .bytes) ≤ (pixelCount header - next .pixel) * wanted)
-          → (m : Move) → Moved place m
+          → (m : Move) → Moved way header wanted place m
           → length (readOn (reading way header wanted message n) m .bytes) ≤ (pixelCount header - place .pixel) * wanted
       go ih m (at-end answer) = zero-le
       go ih m (by-chunk k once missing) =
           simp length-append
-          (rw (missing-split place k (omega arith), add-mul)
-          (omega (arith, chunk-size place k, ih (placeAfter way header wanted message place k))))
+          (rw (missing-split way header wanted place k (omega arith), add-mul)
+          (omega (arith, chunk-size way header wanted place k, ih (placeAfter way header wanted place k))))

@@ -1,7 +1,7 @@
 -- Laws of the record: reading what was written gives the same state, and a record is 277 to 290 bytes.
 -- Assumes nothing.
 use mathlib.Core.Path.{_≡_, refl, sym, _∙_, ap, ap₂}
-use mathlib.Core.Bool.{Bool, true, false, _&&_, _||_}
+use mathlib.Core.Bool.{Bool, true, false, _||_}
 use mathlib.Core.List.{List, [], _∷_, _++_, append-assoc, append-nil}
 use Prim.Native.Nat.{ℕ, suc, _*_, _^_, _≤_, _<_}
 use native.Mathlib.Omega.{arith}
@@ -16,20 +16,16 @@ use Rattle.pixel.specs.declared.types.Channels.the-variants.{Rgb, Rgba}
 use Rattle.pixel.specs.Colour.{clearPixel}
 use Rattle.pixel.specs.Types.{channelsNumber, channelsFrom}
 use Rattle.number.specs.Seven.{sevenBits}
-use Rattle.header.specs.declared.Header.{Header}
-use Rattle.header.specs.Header.{headerBytes, dimensionsFit, pixelCount}
+use Rattle.header.specs.Header.{headerBytes, pixelCount}
 use Rattle.number.proofs.Laws.{read-written, rest-after-written, length-at-least-one, length-at-most-ten, length-one, length-at-most-five}
-use Rattle.header.proofs.Laws.{header-read-back, header-length}
+use Rattle.header.proofs.Laws.{is-true, both, pixels-small, header-read-back, header-length}
+use Rattle.rules.specs.Encode.{pixelFrom, pixelsFrom}
 use Rattle.rules.specs.Step.{State, Typed, headerPasses, wantedPasses, atPasses, pixelPasses, alphaPasses, wellFormed, started}
-use Rattle.rules.specs.Record.{pixelsBytes, recordBytes, readPixel, readPixels, withNumber, readEnd, readSlots, readPositions, readWanted, readRecord}
-
-both : (a b : Bool) → T (a && b) → T a × T b
-both true b t = (tt, t)
-both false b t = absurd t
+use Rattle.rules.specs.Record.{pixelsBytes, recordBytes, withNumber, readEnd, readSlots, readPositions, readWanted, readRecord}
 
 -- a list of four is read back as a pixel, whatever follows
-four-read : (bytes rest : List ℕ) → length bytes ≡ 4 → readPixel (bytes ++ rest) ≡ record { rgba = bytes }
-unfolding readPixel
+four-read : (bytes rest : List ℕ) → length bytes ≡ 4 → pixelFrom 4 (bytes ++ rest) ≡ record { rgba = bytes }
+unfolding pixelFrom
 four-read [] rest e = absurd (omega (arith, e))
 four-read (a ∷ []) rest e = absurd (omega (arith, e))
 four-read (a ∷ b ∷ []) rest e = absurd (omega (arith, e))
@@ -41,25 +37,23 @@ four-read (a ∷ b ∷ c ∷ d ∷ x ∷ xs) rest e = absurd (omega (arith, e))
 abbrev Fours : List Pixel → Type 0
 Fours ps = (i : ℕ) → i < length ps → length (getD ps i clearPixel .rgba) ≡ 4
 
+-- pixels of four bytes take four bytes each
 pixels-length : (ps : List Pixel) → Fours ps → length (pixelsBytes ps) ≡ 4 * length ps
 unfolding pixelsBytes
 pixels-length [] each = refl
 pixels-length (p ∷ ps) each =
     simp length-append (omega (arith, each 0 (omega arith), pixels-length ps (λ i h. each (suc i) (omega arith))))
 
-pixels-read : (ps : List Pixel) (rest : List ℕ) → Fours ps → readPixels (length ps) (pixelsBytes ps ++ rest) ≡ ps
-unfolding readPixels pixelsBytes
+-- pixels are read back, whatever follows
+pixels-read : (ps : List Pixel) (rest : List ℕ) → Fours ps → pixelsFrom (length ps) 4 (pixelsBytes ps ++ rest) ≡ ps
+unfolding pixelsFrom pixelsBytes
 pixels-read [] rest each = refl
 pixels-read (p ∷ ps) rest each =
     let is : length (p .rgba) ≡ 4 = each 0 (omega arith) in
     rw append-assoc
     (ap₂ _∷_ (four-read (p .rgba) (pixelsBytes ps ++ rest) is)
-    (ap (readPixels (length ps)) (drop-at (p .rgba) (pixelsBytes ps ++ rest) 4 is)
+    (ap (pixelsFrom (length ps) 4) (drop-at (p .rgba) (pixelsBytes ps ++ rest) 4 is)
     ∙ pixels-read ps rest (λ i h. each (suc i) (omega arith))))
-
-true-of : (b : Bool) → T b → b ≡ true
-true-of true t = refl
-true-of false t = absurd t
 
 -- the tests of being well formed, one by one
 pub record Formed (s : State) : Type 0 where
@@ -69,6 +63,7 @@ pub record Formed (s : State) : Type 0 where
   pub pixel-passes : T (pixelPasses s)
   pub alpha-passes : T (alphaPasses s)
 
+-- a state that is well formed passes each
 pub formed : (s : State) → T (wellFormed s) → Formed s
 unfolding wellFormed
 formed s t =
@@ -94,37 +89,41 @@ wanted-channels wanted t = go (eqb wanted 3) refl (eqb wanted 4) refl t
     go false e true f t = (Rgba, rw (e, f), sym (eqb-true _ _ f))
     go false e false f t = absurd t
 
+-- a channel count is at most 4
 channels-small : (c : Channels) → channelsNumber c ≤ 4
 channels-small Rgb = omega arith
 channels-small Rgba = omega arith
 
-pixels-small : (h : Header) → T (dimensionsFit (h .width) (h .height)) → pixelCount h ≤ 400000000
-pixels-small h t = leb→le (pixelCount h) 400000000 (both (leb 1 (pixelCount h)) _ t .1)
-
 module _ (s : State) (typed : Typed s) (well : T (wellFormed s)) where
+  -- the pixel position takes five bytes at most
   pixel-small : s .place .pixel < 2 ^ 35
   pixel-small =
       omega
       (arith, leb→le (s .place .pixel) (pixelCount (s .header)) (formed s well .pixel-passes), pixels-small (s .header) (formed s well .header-passes))
 
+  -- wanted takes one byte
   wanted-small : s .wanted < 128
   wanted-small =
       let count = wanted-channels (s .wanted) (formed s well .wanted-passes) in
       omega (arith, count .2, channels-small (count .0))
 
+  -- each slot has four bytes
   fours : Fours (s .place .slots)
   fours i h = typed .slot-is i (omega (arith, typed .slots-are))
 
+  -- the current pixel and the slots are 260 bytes
   slots-length : length (s .place .current .rgba ++ pixelsBytes (s .place .slots)) ≡ 260
   slots-length =
       simp length-append
       (omega (arith, typed .current-is, typed .slots-are, pixels-length (s .place .slots) fours))
 
-  slots-back : readPixels 64 (drop 4 (s .place .current .rgba ++ pixelsBytes (s .place .slots))) ≡ s .place .slots
+  -- the slots are read back
+  slots-back : pixelsFrom 64 4 (drop 4 (s .place .current .rgba ++ pixelsBytes (s .place .slots))) ≡ s .place .slots
   slots-back =
       rw (drop-at (s .place .current .rgba) (pixelsBytes (s .place .slots)) 4 (typed .current-is), ← typed .slots-are, ← append-nil (pixelsBytes (s .place .slots)))
       (pixels-read (s .place .slots) [] fours)
 
+  -- nothing follows the slots
   none-left : length (drop 260 (s .place .current .rgba ++ pixelsBytes (s .place .slots))) ≡ 0
   none-left = simp length-drop (omega (arith, slots-length))
 
@@ -134,7 +133,7 @@ module _ (s : State) (typed : Typed s) (well : T (wellFormed s)) where
       (s .place .current .rgba ++ pixelsBytes (s .place .slots)) ≡ started s
   unfolding readSlots readEnd
   slots-read =
-      rw (le-ltb (length (s .place .current .rgba ++ pixelsBytes (s .place .slots))) 260 (omega (arith, slots-length)), four-read (s .place .current .rgba) (pixelsBytes (s .place .slots)) (typed .current-is), slots-back, none-left, true-of (wellFormed s) well)
+      rw (le-ltb (length (s .place .current .rgba ++ pixelsBytes (s .place .slots))) 260 (omega (arith, slots-length)), four-read (s .place .current .rgba) (pixelsBytes (s .place .slots)) (typed .current-is), slots-back, none-left, is-true (wellFormed s) well)
 
   -- the positions after wanted are read back
   positions-read : (c : Channels) → channelsNumber c ≡ s .wanted →

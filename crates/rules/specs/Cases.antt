@@ -1,5 +1,5 @@
 -- Document 01's pictures and messages on both sides, and its ways to get it wrong: one list, one test, one statement.
-use mathlib.Core.Bool.{Bool, true, _&&_}
+use mathlib.Core.Bool.{Bool, true, false, not, _&&_}
 use mathlib.Core.List.{List, [], _∷_, _++_}
 use Prim.Native.Nat.{ℕ, _+_, _*_}
 use lib.Dec.{T}
@@ -7,30 +7,41 @@ use lib.ListN.{length, take, drop, replicate}
 use Rattle.pixel.specs.declared.types.Channels.{Channels}
 use Rattle.pixel.specs.declared.types.Channels.the-variants.{Rgb, Rgba}
 use Rattle.pixel.specs.declared.types.ColorSpace.the-variants.{Srgb}
-use Rattle.pixel.specs.Colour.{slotOf}
+use Rattle.pixel.specs.Colour.{slotOf, pixelOf, clearPixel}
+use Rattle.pixel.specs.Types.{channelsNumber}
 use Rattle.number.specs.Seven.{sevenBitsOf, sevenBits, groupBelow, readMore, readNumber}
 use Rattle.header.specs.declared.Header.{Header}
 use Rattle.header.specs.Header.{headerBytes, headerFrom, afterColorSpace, afterChannels, headerOf}
 use Rattle.rules.specs.Chunk.{chunkFrom, chunkAt, colourOf, timesOf, sizeOf}
-use Rattle.rules.specs.Reading.{marker, sameBytes, repeated, closing, startPlace, pixelsBrought, pixelAfter, placeAfter, bytesOf, moveBy, move, reading, readingInto, withWanted, withHeader, wholeReading}
+use Rattle.rules.specs.Reading.{Reading, marker, sameBytes, repeated, closing, startPlace, pixelsBrought, pixelAfter, placeAfter, bytesOf, moveBy, move, reading, readingInto, withWanted, withHeader, wholeReading}
 use Rattle.rules.specs.Decode.{decoderStores, decoderKeeps, decoderReadsRgba, decoding, restOf}
-use Rattle.rules.specs.Document.{documentReading}
+use Rattle.rules.specs.Document.{documentReading, namesFilled, filledAfter, filledOn, chunkDue, filledFrom, filledHeader, indexesFilled}
 use Rattle.rules.specs.Encode.{fitsDiff, fitsLuma, diffBytes, lumaBytes, colourBytes, startPen, runEnded, slotHolds, differingBytes, pixelChunks, penAfter, chunksFrom, pixelFrom, pixelsFrom, streamOf, encodingInto, withSpace, withCount, withDimensions, encoding}
 use Rattle.rules.specs.Step.{State, wellFormed, Started, started, notStarted, startWanted, startHeader, starting, stepBy, step, Ran, going, ended, running}
-use Rattle.rules.specs.Record.{pixelsBytes, recordBytes, recording, readPixel, readPixels, withNumber, readEnd, readSlots, readPositions, readWanted, readRecord}
+use Rattle.rules.specs.Record.{pixelsBytes, recordBytes, recording, recordedOver, withNumber, readEnd, readSlots, readPositions, readWanted, readRecord}
 use Rattle.rules.specs.Strict.{strictClosed, strictClosing, strictCounted, strictBy, strictMove, strictFrom, strictHeader, strict}
-use Rattle.rules.specs.Figures.{headerFigures, answerFigures, encodeFigures, strictFigures, numberFigures, startFigures, recordFigures}
+use Rattle.rules.specs.Figures.{headerFigures, answerFigures, encodeFigures, strictFigures, numberFigures, startFigures, recordFigures, stepFigures}
 
 -- a row: what is given, and then what must come
 pub data Case : Type 0 where
-  -- width, height, channels and bytes of a picture: the chunks of its stream
+  -- width, height, channels and bytes of a picture: the chunks of its stream, which is read back on both sides
   encodes : ℕ → ℕ → Channels → List ℕ → List ℕ → Case
   -- width, height, colour space and bytes of a picture, room: the answer's number and figures
   encodesInto : ℕ → ℕ → ℕ → List ℕ → ℕ → List ℕ → Case
   -- width, height and channels, wanted, what follows the header: the answer's number and figures, the bytes written
   decodes : ℕ → ℕ → Channels → ℕ → List ℕ → List ℕ → List ℕ → Case
-  -- width, height and channels, wanted, chunks: the decoder's bytes, the document's bytes
+  -- width, height and channels, wanted, room, what follows the header: the answer's number and figures
+  decodesInto : ℕ → ℕ → Channels → ℕ → ℕ → List ℕ → List ℕ → Case
+  -- width, height and channels, wanted, what follows the header: the document's number and figures, the bytes written
+  documents : ℕ → ℕ → Channels → ℕ → List ℕ → List ℕ → List ℕ → Case
+  -- a message, wanted: the number and figures of a start
+  starts : List ℕ → ℕ → List ℕ → Case
+  -- width, height and channels, wanted, byte position, pixel position, the current pixel's alpha, room, what follows the header: the step's number and figures
+  stepsOn : ℕ → ℕ → Channels → ℕ → ℕ → ℕ → ℕ → ℕ → List ℕ → List ℕ → Case
+  -- width, height and channels, wanted, chunks, accepted on both sides: the decoder's bytes, the document's bytes
   reads : ℕ → ℕ → Channels → ℕ → List ℕ → List ℕ → List ℕ → Case
+  -- width, height and channels, chunks: whether each INDEX names a filled slot
+  fills : ℕ → ℕ → Channels → List ℕ → Bool → Case
   -- width, height and channels, wanted, what follows the header: the rest of the message
   leaves : ℕ → ℕ → Channels → ℕ → List ℕ → List ℕ → Case
   -- width, height and channels, what follows the header: the strict answer's number and figures
@@ -41,8 +52,8 @@ pub data Case : Type 0 where
   counts : ℕ → List ℕ → Case
   -- bytes: the number and figures of the number that they start with
   countsBack : List ℕ → List ℕ → Case
-  -- width, height and channels, wanted, room: the number and figures of writing the start's record
-  records : ℕ → ℕ → Channels → ℕ → ℕ → List ℕ → Case
+  -- width, height and channels, wanted, room: the number and figures of writing the start's record, and the room at exit, which held ee
+  records : ℕ → ℕ → Channels → ℕ → ℕ → List ℕ → List ℕ → Case
   -- width, height and channels, wanted, how much of the start's record, what then follows: the number and figures of reading it
   readsBack : ℕ → ℕ → Channels → ℕ → ℕ → List ℕ → List ℕ → Case
   -- width, height and channels, wanted, chunks, steps before a checkpoint, what the next worker finds from the checkpoint's pixel on: the output at the end
@@ -83,21 +94,49 @@ abbrev startState : ℕ → ℕ → Channels → ℕ → State
 startState width height channels wanted =
     record { header = headerWith width height channels; wanted = wanted; place = startPlace }
 
+-- whether two tests answer the same
+sameTest : Bool → Bool → Bool
+sameTest true b = b
+sameTest false b = not b
+
+-- whether a reading uses a whole message and writes these bytes
+abbrev readsAll : List ℕ → ℕ → List ℕ → Reading → Bool
+readsAll m room bytes r =
+    sameBytes (answerFigures (r .answer)) (0 ∷ room ∷ length m ∷ 0 ∷ 0 ∷ []) && sameBytes (r .bytes) bytes
+
+-- whether the decoder's reading of a message and the document's write these bytes
+abbrev readBoth : List ℕ → ℕ → ℕ → List ℕ → List ℕ → Bool
+readBoth m wanted room bytes documentBytes =
+    readsAll m room bytes (decoding m wanted room) && readsAll m room documentBytes (documentReading m wanted room)
+
 -- whether a case holds of the definitions
 pub holds : Case → Bool
-unfolding afterRun resumed checkpointed begun slotOf sevenBitsOf sevenBits groupBelow readMore readNumber headerBytes headerFrom afterColorSpace afterChannels headerOf chunkFrom chunkAt colourOf timesOf sizeOf sameBytes repeated closing startPlace pixelsBrought pixelAfter placeAfter bytesOf moveBy move reading readingInto withWanted withHeader wholeReading decoderStores decoderKeeps decoderReadsRgba fitsDiff fitsLuma diffBytes lumaBytes colourBytes startPen runEnded slotHolds differingBytes pixelChunks penAfter chunksFrom pixelFrom pixelsFrom streamOf encodingInto withSpace withCount withDimensions encoding wellFormed startWanted startHeader starting stepBy step running pixelsBytes recordBytes recording restOf readPixel readPixels withNumber readEnd readSlots readPositions readWanted readRecord strictClosed strictClosing strictCounted strictBy strictMove strictFrom strictHeader strict
+unfolding sameTest afterRun resumed checkpointed begun slotOf sevenBitsOf sevenBits groupBelow readMore readNumber headerBytes headerFrom afterColorSpace afterChannels headerOf chunkFrom chunkAt colourOf timesOf sizeOf sameBytes repeated closing startPlace pixelsBrought pixelAfter placeAfter bytesOf moveBy move reading readingInto withWanted withHeader wholeReading decoderStores decoderKeeps decoderReadsRgba fitsDiff fitsLuma diffBytes lumaBytes colourBytes startPen runEnded slotHolds differingBytes pixelChunks penAfter chunksFrom pixelFrom pixelsFrom streamOf encodingInto withSpace withCount withDimensions encoding wellFormed startWanted startHeader starting stepBy step running pixelsBytes recordBytes recording recordedOver restOf withNumber readEnd readSlots readPositions readWanted readRecord strictClosed strictClosing strictCounted strictBy strictMove strictFrom strictHeader strict namesFilled filledAfter filledOn chunkDue filledFrom filledHeader indexesFilled
 holds (encodes width height channels picture chunks) =
-    sameBytes (encoding picture width height 0 1000000 .bytes) (message width height channels chunks)
+    let m = message width height channels chunks in
+    sameBytes (encoding picture width height 0 1000000 .bytes) m
+    && readBoth m (channelsNumber channels) (length picture) picture picture
+holds (decodesInto width height channels wanted room body figures) =
+    sameBytes (answerFigures (decoding (headerBytes (headerWith width height channels) ++ body) wanted room .answer)) figures
+holds (documents width height channels wanted body figures bytes) =
+    let r = documentReading (headerBytes (headerWith width height channels) ++ body) wanted (width * height * wanted) in
+    sameBytes (answerFigures (r .answer)) figures && sameBytes (r .bytes) bytes
+holds (starts m wanted figures) = sameBytes (startFigures (starting m wanted)) figures
+holds (stepsOn width height channels wanted at pixel opacity room body figures) =
+    sameBytes
+    (stepFigures
+    (step
+    (record { header = headerWith width height channels; wanted = wanted; place = record { at = at; pixel = pixel; current = pixelOf 0 0 0 opacity; slots = replicate 64 clearPixel } })
+    (headerBytes (headerWith width height channels) ++ body) room)) figures
 holds (encodesInto width height colorspace picture room figures) =
     sameBytes (encodeFigures (encoding picture width height colorspace room .answer)) figures
 holds (decodes width height channels wanted body figures bytes) =
     let r = decoding (headerBytes (headerWith width height channels) ++ body) wanted (width * height * wanted) in
     sameBytes (answerFigures (r .answer)) figures && sameBytes (r .bytes) bytes
 holds (reads width height channels wanted chunks bytes documentBytes) =
-    let m = message width height channels chunks in
-    let room = width * height * wanted in
-    sameBytes (answerFigures (decoding m wanted room .answer)) (0 ∷ room ∷ length m ∷ 0 ∷ 0 ∷ [])
-    && (sameBytes (decoding m wanted room .bytes) bytes && sameBytes (documentReading m wanted room .bytes) documentBytes)
+    readBoth (message width height channels chunks) wanted (width * height * wanted) bytes documentBytes
+holds (fills width height channels chunks each) =
+    sameTest (indexesFilled (message width height channels chunks) (channelsNumber channels)) each
 holds (leaves width height channels wanted body rest) =
     let m = headerBytes (headerWith width height channels) ++ body in
     sameBytes (restOf m (decoding m wanted (width * height * wanted) .answer)) rest
@@ -107,8 +146,9 @@ holds (opens m figures) = sameBytes (headerFigures (headerOf m)) figures
 holds (counts n bytes) =
     sameBytes (sevenBits n) bytes && sameBytes (numberFigures (readNumber bytes)) (0 ∷ n ∷ length bytes ∷ 0 ∷ 0 ∷ [])
 holds (countsBack bytes figures) = sameBytes (numberFigures (readNumber bytes)) figures
-holds (records width height channels wanted room figures) =
-    sameBytes (recordFigures (recording (startState width height channels wanted) room)) figures
+holds (records width height channels wanted room figures out) =
+    let s = startState width height channels wanted in
+    sameBytes (recordFigures (recording s room)) figures && sameBytes (recordedOver s (replicate room 0xee)) out
 holds (readsBack width height channels wanted most following figures) =
     sameBytes (startFigures (readRecord (take most (recordBytes (startState width height channels wanted)) ++ following))) figures
 holds (takesUp width height channels wanted chunks steps found out) =
@@ -198,9 +238,11 @@ noted =
 -- the record's length, and its refusals from left to right
 recordRows : List Case
 recordRows =
-    records 1 1 Rgb 3 277 (0 ∷ 277 ∷ 0 ∷ 0 ∷ 0 ∷ [])
-    ∷ records 1 1 Rgb 3 276 (7 ∷ 276 ∷ 277 ∷ 0 ∷ 0 ∷ [])
-    ∷ records 1 1 Rgb 5 277 (9 ∷ 0 ∷ 0 ∷ 0 ∷ 0 ∷ [])
+    records 1 1 Rgb 3 279 (0 ∷ 277 ∷ 0 ∷ 0 ∷ 0 ∷ [])
+    (0x71 ∷ 0x6f ∷ 0x69 ∷ 0x66 ∷ 0 ∷ 0 ∷ 0 ∷ 1 ∷ 0 ∷ 0 ∷ 0 ∷ 1 ∷ 3 ∷ 0 ∷ 3 ∷ 14 ∷ 0 ∷ 0 ∷ 0 ∷ 0 ∷ 255 ∷ (replicate 256 0 ++ (0xee ∷ 0xee ∷ [])))
+    ∷ records 1 1 Rgb 3 276 (7 ∷ 276 ∷ 277 ∷ 0 ∷ 0 ∷ []) (replicate 276 0xee)
+    ∷ records 1 1 Rgb 5 277 (9 ∷ 0 ∷ 0 ∷ 0 ∷ 0 ∷ []) (replicate 277 0xee)
+    ∷ records 1 1 Rgb 5 276 (9 ∷ 0 ∷ 0 ∷ 0 ∷ 0 ∷ []) (replicate 276 0xee)
     ∷ readsBack 1 1 Rgb 3 277 [] (0 ∷ 14 ∷ 0 ∷ 3 ∷ 0 ∷ [])
     ∷ readsBack 1 1 Rgb 3 13 [] (1 ∷ 0 ∷ 0 ∷ 0 ∷ 0 ∷ [])
     ∷ readsBack 1 1 Rgb 3 14 [] (1 ∷ 0 ∷ 0 ∷ 0 ∷ 0 ∷ [])
@@ -229,11 +271,62 @@ edges =
     ∷ encodes 1 1 Rgb (0 ∷ 0 ∷ 247 ∷ []) (0xfe ∷ 0 ∷ 0 ∷ 247 ∷ [])
     ∷ []
 
+-- the order of refusals, and the ends of chunks
+orders : List Case
+orders =
+    encodes 65 1 Rgb ((100 ∷ 0 ∷ 0 ∷ []) ++ (repeated 63 (100 ∷ 0 ∷ 0 ∷ []) ++ (0 ∷ 0 ∷ 0 ∷ []))) (0xfe ∷ 0x64 ∷ 0 ∷ 0 ∷ 0xfd ∷ 0x21 ∷ 0xfe ∷ 0 ∷ 0 ∷ 0 ∷ [])
+    ∷ encodes 64 1 Rgb (replicate 189 0 ++ (100 ∷ 0 ∷ 0 ∷ [])) (0xfd ∷ 0xc0 ∷ 0xfe ∷ 0x64 ∷ 0 ∷ 0 ∷ [])
+    ∷ decodes 1 1 Rgb 3 (0xa0 ∷ []) (1 ∷ 0 ∷ 0 ∷ 0 ∷ 0 ∷ []) []
+    ∷ decodes 1 1 Rgb 3 (0xfe ∷ 1 ∷ 2 ∷ []) (1 ∷ 0 ∷ 0 ∷ 0 ∷ 0 ∷ []) []
+    ∷ decodes 1 1 Rgba 4 (0xff ∷ 1 ∷ 2 ∷ 3 ∷ []) (1 ∷ 0 ∷ 0 ∷ 0 ∷ 0 ∷ []) []
+    ∷ decodes 2 1 Rgb 3 (0xc0 ∷ 0xfd ∷ marker) (0 ∷ 6 ∷ 24 ∷ 0 ∷ 0 ∷ []) (replicate 6 0)
+    ∷ decodesInto 1 1 Rgb 5 0 [] (2 ∷ 5 ∷ 0 ∷ 0 ∷ 0 ∷ [])
+    ∷ decodesInto 1 1 Rgb 300 0 [] (2 ∷ 255 ∷ 0 ∷ 0 ∷ 0 ∷ [])
+    ∷ decodesInto 1 1 Rgb 4 3 [] (7 ∷ 3 ∷ 4 ∷ 0 ∷ 0 ∷ [])
+    ∷ documents 1 1 Rgb 4 (0xff ∷ 1 ∷ 2 ∷ 3 ∷ 4 ∷ marker) (0 ∷ 4 ∷ 27 ∷ 0 ∷ 0 ∷ []) (1 ∷ 2 ∷ 3 ∷ 4 ∷ [])
+    ∷ encodesInto 0 1 2 (1 ∷ []) 0 (5 ∷ 0 ∷ 1 ∷ 0 ∷ 0 ∷ [])
+    ∷ encodesInto 20000 20000 2 [] 0 (2 ∷ 0 ∷ 0 ∷ 0 ∷ 0 ∷ [])
+    ∷ encodesInto 1 1 2 (replicate 256 0) 0 (2 ∷ 255 ∷ 0 ∷ 0 ∷ 0 ∷ [])
+    ∷ encodesInto 1 1 2 (0 ∷ 0 ∷ 0 ∷ []) 0 (3 ∷ 2 ∷ 0 ∷ 0 ∷ 0 ∷ [])
+    ∷ checks 1 1 Rgb (0xa0 ∷ []) (1 ∷ 0 ∷ 0 ∷ 0 ∷ 0 ∷ [])
+    ∷ checks 1 1 Rgb (0xff ∷ 0 ∷ 0 ∷ 0 ∷ 0 ∷ 0 ∷ 0 ∷ []) (1 ∷ 0 ∷ 0 ∷ 0 ∷ 0 ∷ [])
+    ∷ checks 1 1 Rgb (0xc0 ∷ replicate 7 0) (1 ∷ 0 ∷ 0 ∷ 0 ∷ 0 ∷ [])
+    ∷ checks 1 1 Rgb (0xc0 ∷ replicate 9 0) (8 ∷ 0 ∷ 0 ∷ 0 ∷ 0 ∷ [])
+    ∷ opens (replicate 12 0 ++ (5 ∷ [])) (1 ∷ 0 ∷ 0 ∷ 0 ∷ 0 ∷ [])
+    ∷ opens (replicate 12 0 ++ (5 ∷ 9 ∷ [])) (2 ∷ 5 ∷ 0 ∷ 0 ∷ 0 ∷ [])
+    ∷ opens (replicate 12 0 ++ (3 ∷ 9 ∷ [])) (3 ∷ 9 ∷ 0 ∷ 0 ∷ 0 ∷ [])
+    ∷ opens (1 ∷ (replicate 11 0 ++ (3 ∷ 1 ∷ []))) (4 ∷ 16777216 ∷ 0 ∷ 0 ∷ 0 ∷ [])
+    ∷ starts (replicate 12 0 ++ (5 ∷ 9 ∷ [])) 300 (2 ∷ 5 ∷ 0 ∷ 0 ∷ 0 ∷ [])
+    ∷ starts (headerBytes (headerWith 1 1 Rgb)) 300 (2 ∷ 255 ∷ 0 ∷ 0 ∷ 0 ∷ [])
+    ∷ starts (headerBytes (headerWith 1 1 Rgb)) 4 (0 ∷ 14 ∷ 0 ∷ 4 ∷ 0 ∷ [])
+    ∷ readsBack 1 1 Rgb 3 0 (replicate 12 0 ++ (5 ∷ 9 ∷ [])) (2 ∷ 5 ∷ 0 ∷ 0 ∷ 0 ∷ [])
+    ∷ readsBack 1 1 Rgb 3 15 (0x0e ∷ 0x00 ∷ 0 ∷ 0 ∷ 0 ∷ 254 ∷ replicate 256 0) (9 ∷ 0 ∷ 0 ∷ 0 ∷ 0 ∷ [])
+    ∷ readsBack 1 1 Rgb 3 15 (0x0e ∷ 0x02 ∷ 0 ∷ 0 ∷ 0 ∷ 255 ∷ replicate 256 0) (9 ∷ 0 ∷ 0 ∷ 0 ∷ 0 ∷ [])
+    ∷ readsBack 1 1 Rgb 3 15 (0x0d ∷ 0x00 ∷ replicate 259 0) (1 ∷ 0 ∷ 0 ∷ 0 ∷ 0 ∷ [])
+    ∷ stepsOn 1 1 Rgb 5 13 0 255 0 [] (9 ∷ 0 ∷ 0 ∷ 0 ∷ 0 ∷ [])
+    ∷ stepsOn 1 1 Rgb 3 18446744073709551615 1 255 2 [] (7 ∷ 2 ∷ 3 ∷ 0 ∷ 0 ∷ [])
+    ∷ stepsOn 1 1 Rgb 3 18446744073709551615 0 255 3 (0xc0 ∷ marker) (1 ∷ 0 ∷ 0 ∷ 0 ∷ 0 ∷ [])
+    ∷ stepsOn 1 1 Rgb 3 18446744073709551615 1 255 3 (0xc0 ∷ marker) (1 ∷ 0 ∷ 0 ∷ 0 ∷ 0 ∷ [])
+    ∷ stepsOn 1 1 Rgb 3 15 1 255 3 (0xc0 ∷ marker) (0 ∷ 3 ∷ 23 ∷ 0 ∷ 0 ∷ [])
+    ∷ stepsOn 1 1 Rgb 4 14 0 7 4 (0xff ∷ replicate 7 0) (256 ∷ 14 ∷ 1 ∷ 4 ∷ 0 ∷ [])
+    ∷ []
+
+-- filled slots: RUN fills none, slot 0 is excepted with four channels and not with three, a chunk before fills its own, the marker is no INDEX
+filled : List Case
+filled =
+    fills 2 1 Rgba (0xc0 ∷ 0x35 ∷ []) false
+    ∷ fills 3 1 Rgba (0x00 ∷ 0x00 ∷ 0xff ∷ 9 ∷ 0 ∷ 0 ∷ 9 ∷ []) true
+    ∷ fills 3 1 Rgba (0xff ∷ 0x00 ∷ 0x00 ∷ 0x00 ∷ 0x80 ∷ 0x05 ∷ 0x00 ∷ []) false
+    ∷ fills 1 1 Rgb (0x00 ∷ []) false
+    ∷ fills 5 1 Rgb (0xfe ∷ 0x64 ∷ 0x00 ∷ 0x00 ∷ 0xfe ∷ 0x00 ∷ 0x00 ∷ 0x00 ∷ 0x21 ∷ 0x21 ∷ 0x35 ∷ []) true
+    ∷ fills 2 1 Rgb (0xfd ∷ []) true
+    ∷ []
+
 -- all of them
 pub cases : List Case
-cases = proved ++ (compared ++ (mistaken ++ (noted ++ (recordRows ++ edges))))
+cases = proved ++ (compared ++ (mistaken ++ (noted ++ (recordRows ++ (edges ++ (orders ++ filled))))))
 
 -- every case holds
 pub cases-hold : T (allHold cases)
-unfolding allHold holds cases proved compared mistaken noted recordRows edges
+unfolding repeated allHold holds cases proved compared mistaken noted recordRows edges orders filled
 cases-hold = tt

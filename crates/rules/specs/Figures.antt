@@ -1,4 +1,4 @@
--- Answers as numbers: 0 or the refusal's number, and then four figures, as an exported call gives them.
+-- Answers as numbers: 0 or the refusal's number (256: a step with more to do), then four figures.
 use mathlib.Core.List.{List, [], _∷_}
 use Prim.Native.Nat.{ℕ}
 use Rattle.pixel.specs.declared.error.Error.{Error}
@@ -10,7 +10,7 @@ use Rattle.header.specs.declared.HeaderRead.{HeaderRead}
 use Rattle.header.specs.declared.HeaderRead.the-variants as header-read
 use Rattle.rules.specs.Reading.{Answer, done, refused}
 use Rattle.rules.specs.Encode.{EncodeAnswer, encoded, notEncoded}
-use Rattle.rules.specs.Step.{Started, started, notStarted}
+use Rattle.rules.specs.Step.{Started, started, notStarted, Step}
 use Rattle.rules.specs.Record.{Recorded, recorded, notRecorded}
 use Rattle.rules.specs.Strict.{StrictAnswer, accepted, rejected}
 
@@ -52,3 +52,8 @@ startFigures (notStarted e) = refusalFigures e
 abbrev pub recordFigures : Recorded → List ℕ
 recordFigures (recorded size) = 0 ∷ size ∷ 0 ∷ 0 ∷ 0 ∷ []
 recordFigures (notRecorded e) = refusalFigures e
+
+-- a step: 256 with byte position, pixel position and wanted channels, or its end's answer
+abbrev pub stepFigures : Step → List ℕ
+stepFigures (Step.more s bytes) = 256 ∷ s .place .at ∷ s .place .pixel ∷ s .wanted ∷ 0 ∷ []
+stepFigures (Step.end answer) = answerFigures answer

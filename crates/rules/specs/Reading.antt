@@ -106,44 +106,46 @@ closing size message at =
 unfoldable pub startPlace : Place
 startPlace = record { at = 14; pixel = 0; current = startPixel; slots = replicate 64 clearPixel }
 
-module _ (way : Way) (header : Header) (wanted : ℕ) (message : List ℕ) where
-  -- the bytes of the whole picture
-  abbrev pub sizeWanted : ℕ
-  sizeWanted = pixelCount header * wanted
+-- the bytes of the whole picture
+abbrev pub sizeWanted : Header → ℕ → ℕ
+sizeWanted header wanted = pixelCount header * wanted
 
-  -- a run is clipped to the pixels left
-  unfoldable pub pixelsBrought : Place → Chunk → ℕ
-  pixelsBrought place k = min (timesOf k) (pixelCount header - place .pixel)
+-- a run is clipped to the pixels left
+unfoldable pub pixelsBrought : Header → Place → Chunk → ℕ
+pixelsBrought header place k = min (timesOf k) (pixelCount header - place .pixel)
 
-  -- the pixel after a chunk
-  unfoldable pub pixelAfter : Place → Chunk → Pixel
-  pixelAfter place k = way .keeps wanted (colourOf (place .slots) (place .current) k)
+-- the pixel after a chunk
+unfoldable pub pixelAfter : Way → ℕ → Place → Chunk → Pixel
+pixelAfter way wanted place k = way .keeps wanted (colourOf (place .slots) (place .current) k)
 
+module _ (way : Way) (header : Header) (wanted : ℕ) where
   -- the place after a chunk
   unfoldable pub placeAfter : Place → Chunk → Place
   placeAfter place k =
+      let p = pixelAfter way wanted place k in
       record {
         at = place .at + sizeOf k;
-        pixel = place .pixel + pixelsBrought place k;
-        current = pixelAfter place k;
-        slots = cond (way .stores k) (set (place .slots) (slotOf (pixelAfter place k)) (pixelAfter place k)) (place .slots);
+        pixel = place .pixel + pixelsBrought header place k;
+        current = p;
+        slots = cond (way .stores k) (set (place .slots) (slotOf p) p) (place .slots);
       }
 
   -- the bytes that a chunk writes
   unfoldable pub bytesOf : Place → Chunk → List ℕ
-  bytesOf place k = repeated (pixelsBrought place k) (take wanted (pixelAfter place k .rgba))
+  bytesOf place k = repeated (pixelsBrought header place k) (take wanted (pixelAfter way wanted place k .rgba))
 
   -- a chunk whose bytes are not all there is refusal 1
   unfoldable pub moveBy : Place → Found → Move
   moveBy place cut = end (refused UnexpectedBufferEnd)
   moveBy place (chunk k) = more (placeAfter place k) (bytesOf place k)
 
+module _ (way : Way) (header : Header) (wanted : ℕ) (message : List ℕ) where
   -- one chunk or, with no pixel left, the marker test
   unfoldable pub move : Place → Move
   move place =
       cond (ltb (place .pixel) (pixelCount header))
-      (moveBy place (chunkAt (way .readsRgba (channelsNumber (header .channels))) (drop (place .at) message)))
-      (end (closing sizeWanted message (place .at)))
+      (moveBy way header wanted place (chunkAt (way .readsRgba (channelsNumber (header .channels))) (drop (place .at) message)))
+      (end (closing (sizeWanted header wanted) message (place .at)))
 
   -- at most so many moves
   unfoldable pub played : ℕ → Place → Played
@@ -152,7 +154,7 @@ module _ (way : Way) (header : Header) (wanted : ℕ) (message : List ℕ) where
 
   -- moves until the end; each brings a pixel, so with none left only the marker test is to do
   unfoldable pub reading : ℕ → Place → Reading
-  reading zero place = silent (closing sizeWanted message (place .at))
+  reading zero place = silent (closing (sizeWanted header wanted) message (place .at))
   reading (suc left) place = readOn (reading left) (move place)
 
   -- the reading from a place to its end
@@ -162,7 +164,7 @@ module _ (way : Way) (header : Header) (wanted : ℕ) (message : List ℕ) where
   -- the reading of a message whose header is known, into so many bytes: 7, then the chunks
   unfoldable pub readingInto : ℕ → Reading
   readingInto room =
-      cond (ltb room sizeWanted) (silent (refused (OutputBufferTooSmall room sizeWanted)))
+      cond (ltb room (sizeWanted header wanted)) (silent (refused (OutputBufferTooSmall room (sizeWanted header wanted))))
       (remaining startPlace)
 
 module _ (way : Way) (message : List ℕ) (room : ℕ) where

@@ -1,15 +1,14 @@
 -- The record of a state: its bytes, writing them, and reading them left to right with the order of the refusals.
 use mathlib.Core.Bool.{cond}
 use mathlib.Core.List.{List, [], _∷_, _++_}
-use Prim.Native.Nat.{ℕ, zero, suc}
+use Prim.Native.Nat.{ℕ}
 use lib.Dec.{ltb, eqb}
-use lib.ListN.{length, getD, drop}
+use lib.ListN.{length, drop}
 use Rattle.pixel.specs.declared.Pixel.{Pixel}
 use Rattle.pixel.specs.declared.error.Error.{Error}
 use Rattle.pixel.specs.declared.error.Error.the-variants.{UnexpectedBufferEnd, BadState, OutputBufferTooSmall}
 use Rattle.pixel.specs.declared.types.ChannelsRead.{ChannelsRead}
 use Rattle.pixel.specs.declared.types.ChannelsRead.the-variants as channels-read
-use Rattle.pixel.specs.Colour.{pixelOf}
 use Rattle.pixel.specs.Types.{channelsNumber, channelsFrom}
 use Rattle.number.specs.declared.NumberRead.{NumberRead}
 use Rattle.number.specs.declared.NumberRead.the-variants as number-read
@@ -18,6 +17,8 @@ use Rattle.header.specs.declared.Header.{Header}
 use Rattle.header.specs.declared.HeaderRead.{HeaderRead}
 use Rattle.header.specs.declared.HeaderRead.the-variants as header-read
 use Rattle.header.specs.Header.{headerBytes, headerOf}
+use Rattle.rules.specs.Decode.{writtenOver}
+use Rattle.rules.specs.Encode.{pixelFrom, pixelsFrom}
 use Rattle.rules.specs.Step.{State, wellFormed, Started, started, notStarted}
 
 -- pixels one after another, four bytes each
@@ -51,16 +52,7 @@ recording s room =
 -- the output then: the record and what stood after it; after a refusal, what it held
 unfoldable pub recordedOver : State → List ℕ → List ℕ
 recordedOver s out =
-    cond (wellFormed s) (cond (ltb (length out) (length (recordBytes s))) out (recordBytes s ++ drop (length (recordBytes s)) out)) out
-
--- the pixel of the first four bytes
-unfoldable pub readPixel : List ℕ → Pixel
-readPixel bytes = pixelOf (getD bytes 0 0) (getD bytes 1 0) (getD bytes 2 0) (getD bytes 3 0)
-
--- so many pixels of four bytes
-unfoldable pub readPixels : ℕ → List ℕ → List Pixel
-readPixels zero bytes = []
-readPixels (suc n) bytes = readPixel bytes ∷ readPixels n (drop 4 bytes)
+    cond (wellFormed s) (cond (ltb (length out) (length (recordBytes s))) out (writtenOver (recordBytes s) out)) out
 
 -- a number, and then what follows its bytes
 unfoldable pub withNumber : List ℕ → NumberRead → (ℕ → List ℕ → Started) → Started
@@ -83,8 +75,8 @@ readSlots header wanted at pixel bytes =
       place = record {
         at = at;
         pixel = pixel;
-        current = readPixel bytes;
-        slots = readPixels 64 (drop 4 bytes);
+        current = pixelFrom 4 bytes;
+        slots = pixelsFrom 64 4 (drop 4 bytes);
       };
     })
     (length (drop 260 bytes)))

@@ -15,7 +15,7 @@ use Rattle.header.specs.declared.Header.{Header}
 use Rattle.header.specs.declared.HeaderRead.{HeaderRead}
 use Rattle.header.specs.declared.HeaderRead.the-variants as header-read
 use Rattle.header.specs.Header.{pixelCount, dimensionsFit, headerOf}
-use Rattle.rules.specs.Reading.{Place, Answer, refused, Move, startPlace, move, pasted}
+use Rattle.rules.specs.Reading.{Place, Answer, refused, Move, startPlace, sizeWanted, move, pasted}
 use Rattle.rules.specs.Decode.{decoder}
 
 -- header, wanted channels, and the place: byte position, pixel position, current pixel, slots
@@ -91,8 +91,8 @@ stepBy s (Move.end answer) = end answer
 unfoldable pub step : State → List ℕ → ℕ → Step
 step s message room =
     cond (wellFormed s)
-    (cond (ltb room (pixelCount (s .header) * s .wanted))
-    (end (refused (OutputBufferTooSmall room (pixelCount (s .header) * s .wanted))))
+    (cond (ltb room (sizeWanted (s .header) (s .wanted)))
+    (end (refused (OutputBufferTooSmall room (sizeWanted (s .header) (s .wanted)))))
     (stepBy s (move decoder (s .header) (s .wanted) message (s .place))))
     (end (refused BadState))
 

@@ -7,7 +7,8 @@ use Rattle.decode.specs.Inner.{fourBytes}
 use Rattle.rules.specs.Decode.{decoderKeeps}
 use native.Mathlib.Omega.{arith}
 use borrow.Author.Needs.{needs}
-use Rattle.decode.proofs.Loop.{Head, begun, ends-cut, ends-closing, finds, index-within, run-some, colour-within, after-index, after-run, after-colour, four-bytes, slot-below, pixels-small}
+use Rattle.header.proofs.Laws.{pixels-small}
+use Rattle.decode.proofs.Loop.{Head, begun, ends-cut, ends-closing, finds, index-within, run-some, colour-within, after-index, after-run, after-colour, four-bytes, slot-below}
 use Rattle.decode.proofs.inner.decode_four.Statement.{statement}
 use Rattle.decode.proofs.inner.decode_four.Tie as tie
 

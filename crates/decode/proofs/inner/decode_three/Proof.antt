@@ -9,7 +9,8 @@ use Rattle.rules.specs.Reading.{closing}
 use Rattle.decode.specs.Inner.{threeBytes}
 use native.Mathlib.Omega.{arith}
 use borrow.Author.Needs.{needs}
-use Rattle.decode.proofs.Loop.{Head, begun, ends-cut, ends-closing, finds, index-within, run-some, colour-within, after-index, after-run, after-colour, three-bytes, slot-below, pixels-small}
+use Rattle.header.proofs.Laws.{pixels-small}
+use Rattle.decode.proofs.Loop.{Head, begun, ends-cut, ends-closing, finds, index-within, run-some, colour-within, after-index, after-run, after-colour, three-bytes, slot-below}
 use Rattle.decode.proofs.inner.decode_three.Statement.{statement}
 use Rattle.decode.proofs.inner.decode_three.Tie as tie
 

@@ -8,7 +8,7 @@ use borrow.Author.Needs.{needs}
 use borrow.Author.Tests.{lt-ltb, le-ltb}
 use Rattle.header.specs.Header.{pixelCount}
 use Rattle.rules.specs.Reading.{readingInto}
-use Rattle.decode.proofs.Loop.{pixels-small}
+use Rattle.header.proofs.Laws.{pixels-small}
 use Rattle.decode.proofs.inner.into_three.Statement.{statement}
 use Rattle.decode.proofs.inner.into_three.Tie as tie
 
