@@ -1,12 +1,13 @@
 // One chunk of a message: what its first bytes say, and the pixel that a chunk of colour makes of the one before it.
 ghost use mathlib.Core.Path.{_≡_};
 ghost use mathlib.Core.List.{[], _∷_};
+ghost use Rattle.pixel.specs.Packed.{unpacked};
 ghost use Rattle.pixel.specs.Types.{channelsNumber};
 ghost use Rattle.rules.specs.Chunk.{chunkAt, colourOf, sizeOf, shifted as shiftedBy};
 ghost use Rattle.rules.specs.Reading.{sameBytes, marker};
 ghost use Rattle.rules.specs.Decode.{decoderReadsRgba};
 ghost use Rattle.chunk.specs.Found.{foundOf, chunkOf, endingAt};
-use pixel::Pixel;
+use pixel::packed;
 use pixel::types::Channels;
 
 // A chunk that makes its pixel from the one before it, and is stored.
@@ -40,6 +41,28 @@ pub fn read(source: Channels, part: &[u8]) -> Found
         return Found::Cut;
     }
     let byte = part[0];
+    if byte == 0xff {
+        match source {
+            Channels::Rgba => {
+                if part.len() < 5 {
+                    return Found::Cut;
+                }
+                return Found::Colour(Colour::Rgba(part[1], part[2], part[3], part[4]));
+            }
+            Channels::Rgb => {
+                if part.len() < 8 {
+                    return Found::Cut;
+                }
+                return Found::Colour(Colour::Stuck);
+            }
+        }
+    }
+    if byte == 0xfe {
+        if part.len() < 4 {
+            return Found::Cut;
+        }
+        return Found::Colour(Colour::Rgb(part[1], part[2], part[3]));
+    }
     if byte < 0x40 {
         return Found::Index(byte);
     }
@@ -53,29 +76,7 @@ pub fn read(source: Channels, part: &[u8]) -> Found
         let second = part[1];
         return Found::Colour(Colour::Luma(byte % 64, second / 16, second % 16));
     }
-    if byte < 0xfe {
-        return Found::Run(byte % 64 + 1);
-    }
-    if byte < 0xff {
-        if part.len() < 4 {
-            return Found::Cut;
-        }
-        return Found::Colour(Colour::Rgb(part[1], part[2], part[3]));
-    }
-    match source {
-        Channels::Rgba => {
-            if part.len() < 5 {
-                return Found::Cut;
-            }
-            Found::Colour(Colour::Rgba(part[1], part[2], part[3], part[4]))
-        }
-        Channels::Rgb => {
-            if part.len() < 8 {
-                return Found::Cut;
-            }
-            Found::Colour(Colour::Stuck)
-        }
-    }
+    Found::Run(byte % 64 + 1)
 }
 
 // What follows the last pixel: the marker, other bytes, or too few.
@@ -139,19 +140,17 @@ fn is_marker(a: u8, b: u8, c: u8, d: u8, e: u8, f: u8, g: u8, h: u8) -> bool
     true
 }
 
-// The pixel that a chunk of colour makes of the previous one.
-pub fn recolour(previous: Pixel, colour: Colour) -> Pixel
-    ensures { λ r. ⌜ r ≡ colourOf [] previous (chunkOf colour) ⌝ }
+// The packed pixel that a chunk of colour makes of the previous one.
+pub fn recolour(previous: u32, colour: Colour) -> u32
+    ensures { λ r. ⌜ unpacked r ≡ colourOf [] (unpacked previous) (chunkOf colour) ⌝ }
 {
     match colour {
-        Colour::Diff(r, g, b) => {
-            shifted(
-                previous,
-                pixel::wrapped_difference(r, 2),
-                pixel::wrapped_difference(g, 2),
-                pixel::wrapped_difference(b, 2),
-            )
-        }
+        Colour::Diff(r, g, b) => shifted(
+            previous,
+            pixel::wrapped_difference(r, 2),
+            pixel::wrapped_difference(g, 2),
+            pixel::wrapped_difference(b, 2),
+        ),
         Colour::Luma(g, r, b) => {
             let green = pixel::wrapped_difference(g, 32);
             shifted(
@@ -161,8 +160,8 @@ pub fn recolour(previous: Pixel, colour: Colour) -> Pixel
                 pixel::wrapped_sum(green, pixel::wrapped_difference(b, 8)),
             )
         }
-        Colour::Rgb(r, g, b) => Pixel::new(r, g, b, previous.a()),
-        Colour::Rgba(r, g, b, a) => Pixel::new(r, g, b, a),
+        Colour::Rgb(r, g, b) => packed::pack(r, g, b, packed::alpha(previous)),
+        Colour::Rgba(r, g, b, a) => packed::pack(r, g, b, a),
         Colour::Stuck => previous,
     }
 }
@@ -180,14 +179,14 @@ pub fn size(colour: Colour) -> usize
     }
 }
 
-// A pixel with a difference added to each colour.
-fn shifted(p: Pixel, r: u8, g: u8, b: u8) -> Pixel
-    ensures { λ q. ⌜ q ≡ shiftedBy p r g b ⌝ }
+// A packed pixel with a difference added to each colour.
+fn shifted(p: u32, r: u8, g: u8, b: u8) -> u32
+    ensures { λ q. ⌜ unpacked q ≡ shiftedBy (unpacked p) r g b ⌝ }
 {
-    Pixel::new(
-        pixel::wrapped_sum(p.r(), r),
-        pixel::wrapped_sum(p.g(), g),
-        pixel::wrapped_sum(p.b(), b),
-        p.a(),
+    packed::pack(
+        pixel::wrapped_sum(packed::red(p), r),
+        pixel::wrapped_sum(packed::green(p), g),
+        pixel::wrapped_sum(packed::blue(p), b),
+        packed::alpha(p),
     )
 }

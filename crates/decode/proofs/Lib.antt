@@ -2,3 +2,4 @@
 pub mod Ends
 pub mod Loop
 pub mod Pasting
+pub mod Slots

@@ -1,9 +1,32 @@
--- What a decode's answer means.
+-- What a decode's answer means, and the decode to the header's own channels.
 use Rattle.decode.specs.declared.Decoded.{Decoded}
 use Rattle.decode.specs.declared.Decoded.the-variants.{Done, Refused}
+use mathlib.Core.List.{List, []}
+use Prim.Native.Nat.{ℕ}
+use Rattle.pixel.specs.Types.{channelsNumber}
+use Rattle.header.specs.declared.Header.{Header}
+use Rattle.header.specs.declared.HeaderRead.{HeaderRead}
+use Rattle.header.specs.declared.HeaderRead.the-variants as header-read
 use Rattle.rules.specs.Reading.{Answer, done, refused}
+use Rattle.rules.specs.Decode.{decoding}
 
 -- bytes written and message bytes used, or a refusal
 abbrev pub answerOf : Decoded → Answer
 answerOf (Done size used) = done size used
 answerOf (Refused e) = refused e
+
+-- the header where the decode accepts, or the refusal
+abbrev pub headerWhen : Header → Answer → HeaderRead
+headerWhen header (done size used) = header-read.Ok header
+headerWhen header (refused e) = header-read.Refused e
+
+-- decoding to the channels of the message's own header: its answer
+abbrev pub bufAnswer : List ℕ → ℕ → HeaderRead → HeaderRead
+bufAnswer message room (header-read.Refused e) = header-read.Refused e
+bufAnswer message room (header-read.Ok header) =
+    headerWhen header (decoding message (channelsNumber (header .channels)) room .answer)
+
+-- and the bytes that it writes
+abbrev pub bufBytes : List ℕ → ℕ → HeaderRead → List ℕ
+bufBytes message room (header-read.Refused e) = []
+bufBytes message room (header-read.Ok header) = decoding message (channelsNumber (header .channels)) room .bytes

@@ -2,13 +2,16 @@
 ghost use mathlib.Core.Path.{_≡_};
 ghost use lib.ListN.{length};
 ghost use Rattle.rules.specs.Decode.{decoding, writtenOver, restOf};
-ghost use Rattle.decode.specs.Decoded.{answerOf};
+ghost use Rattle.decode.specs.Decoded.{answerOf, bufAnswer, bufBytes};
+ghost use Rattle.header.specs.Header.{headerOf};
 use header::Header;
 use header::HeaderRead;
 use pixel::error::Error;
 use pixel::types::Channels;
 
+mod four;
 mod inner;
+mod three;
 
 pub enum Decoded {
     // Bytes written, and message bytes used: header, chunks and marker.
@@ -28,6 +31,22 @@ pub fn decode(message: &[u8], wanted: u64, out: &mut [u8]) -> Decoded
             Channels::try_from(wanted),
             out,
         ),
+    }
+}
+
+// Decodes a message to the channels of its own header, and answers that header.
+pub fn decode_to_buf(out: &mut [u8], message: &[u8]) -> HeaderRead
+    ensures { λ r. ⌜ (r ≡ bufAnswer (now (message .entry)) (length (now (out .entry))) (headerOf (now (message .entry)))) × (now (out .exit) ≡ writtenOver (bufBytes (now (message .entry)) (length (now (out .entry))) (headerOf (now (message .entry)))) (now (out .entry))) ⌝ }
+{
+    match Header::decode(message) {
+        HeaderRead::Refused(e) => HeaderRead::Refused(e),
+        HeaderRead::Ok(header) => {
+            let channels = header.channels;
+            match decode(message, channels.as_u8() as u64, out) {
+                Decoded::Refused(e) => HeaderRead::Refused(e),
+                Decoded::Done { size: _, used: _ } => HeaderRead::Ok(header),
+            }
+        }
     }
 }
 

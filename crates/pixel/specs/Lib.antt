@@ -1,4 +1,5 @@
 -- The definitions of crate `pixel`: refusals, channel counts and colour spaces, pixels.
 pub mod Colour
+pub mod Packed
 pub mod Refusal
 pub mod Types

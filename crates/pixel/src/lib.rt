@@ -5,6 +5,7 @@ ghost use Rattle.pixel.specs.Colour.{pixelOf, red, green, blue, alpha, s
 
 pub mod consts;
 pub mod error;
+pub mod packed;
 pub mod types;
 
 // Red, green, blue, alpha. Where pixels have three channels the alpha is 255.

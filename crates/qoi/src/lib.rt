@@ -7,10 +7,11 @@ ghost use Rattle.rules.specs.Decode.{decoding, writtenOver};
 ghost use Rattle.rules.specs.Figures.{headerFigures, answerFigures};
 use decode::Decoded;
 use header::HeaderRead;
+use pixel::error::FourFigures;
 
 // Width, height, channels and colour space of a message.
 #[no_mangle]
-pub extern "C" fn pivotshade_header(message: &[u8], figures: &mut [u64; 4]) -> u64
+pub extern "C" fn pivotshade_header(message: &[u8], figures: &mut FourFigures) -> u64
     ensures { λ r. ⌜ r ∷ now (figures .exit) ≡ headerFigures (headerOf (now (message .entry))) ⌝ }
 {
     match header::decode_header(message) {
@@ -38,7 +39,7 @@ pub extern "C" fn pivotshade_decode(
     message: &[u8],
     wanted: u64,
     out: &mut [u8],
-    figures: &mut [u64; 4],
+    figures: &mut FourFigures,
 ) -> u64
     ensures { λ r. ⌜ (r ∷ now (figures .exit) ≡ answerFigures (decoding (now (message .entry)) wanted (length (now (out .entry))) .answer)) × (now (out .exit) ≡ writtenOver (decoding (now (message .entry)) wanted (length (now (out .entry))) .bytes) (now (out .entry))) ⌝ }
 {

@@ -1,6 +1,8 @@
 -- `chunk::recolour` meets its contract: each arm is that chunk's meaning.
 -- Assumes nothing.
+use mathlib.Core.Path.{_∙_}
 use borrow.Author.Needs.{needs}
+use Rattle.pixel.specs.Packed.{unpacked}
 use Rattle.rules.specs.Chunk.{colourOf}
 use Rattle.chunk.proofs.recolour.Statement.{statement}
 use Rattle.chunk.proofs.recolour.Tie as tie
@@ -44,17 +46,17 @@ shifted-requires-2 c κs = search needs
 enum-known-colour-3 : tie.Need-enum-known-colour-3
 enum-known-colour-3 c = search needs
 
-a-requires : tie.Need-a-requires
-a-requires c κs = search needs
+alpha-requires : tie.Need-alpha-requires
+alpha-requires c κs = search needs
 
-new-requires : tie.Need-new-requires
-new-requires c κs = search needs
+pack-requires : tie.Need-pack-requires
+pack-requires c κs = search needs
 
 enum-known-colour-4 : tie.Need-enum-known-colour-4
 enum-known-colour-4 c = search needs
 
-new-requires-2 : tie.Need-new-requires-2
-new-requires-2 c κs = search needs
+pack-requires-2 : tie.Need-pack-requires-2
+pack-requires-2 c κs = search needs
 
 enum-told : tie.Need-enum-told
 enum-told c = search needs
@@ -68,12 +70,12 @@ unfolding colourOf
 returns-2 c = simp (c .before .before .before .before .before .before .before .colour2 .given .1, c .shifted2 .ensures, c .before .wrapped-sum2 .ensures, c .before .before .wrapped-difference6 .ensures, c .before .before .before .wrapped-sum .ensures, c .before .before .before .before .wrapped-difference5 .ensures, c .before .before .before .before .before .wrapped-difference4 .ensures)
 
 returns-3 : tie.Need-returns-3
-unfolding colourOf
-returns-3 c = simp (c .before .before .before .colour3 .given .1, c .new .ensures, c .before .a .ensures)
+unfolding colourOf unpacked
+returns-3 c = rw (c .before .before .before .colour3 .given .1) (c .pack .ensures ∙ simp (c .before .alpha .ensures))
 
 returns-4 : tie.Need-returns-4
 unfolding colourOf
-returns-4 c = simp (c .before .before .colour4 .given .1, c .new2 .ensures)
+returns-4 c = rw (c .before .before .colour4 .given .1) (c .pack2 .ensures)
 
 returns-5 : tie.Need-returns-5
 unfolding colourOf
@@ -96,10 +98,10 @@ recolour-spec =
     wrapped-sum-requires-2
     shifted-requires-2
     enum-known-colour-3
-    a-requires
-    new-requires
+    alpha-requires
+    pack-requires
     enum-known-colour-4
-    new-requires-2
+    pack-requires-2
     enum-told
     returns
     returns-2

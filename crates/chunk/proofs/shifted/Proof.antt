@@ -1,47 +1,51 @@
 -- `chunk::shifted` meets its contract: each colour is a wrapped sum.
 -- Assumes nothing.
+use mathlib.Core.Path.{_∙_}
 use borrow.Author.Needs.{needs}
+use Rattle.pixel.specs.Packed.{unpacked}
 use Rattle.chunk.proofs.shifted.Statement.{statement}
 use Rattle.chunk.proofs.shifted.Tie as tie
 
-r-requires : tie.Need-r-requires
-r-requires c κs = search needs
+red-requires : tie.Need-red-requires
+red-requires c κs = search needs
 
 wrapped-sum-requires : tie.Need-wrapped-sum-requires
 wrapped-sum-requires c κs = search needs
 
-g-requires : tie.Need-g-requires
-g-requires c κs = search needs
+green-requires : tie.Need-green-requires
+green-requires c κs = search needs
 
 wrapped-sum-requires-2 : tie.Need-wrapped-sum-requires-2
 wrapped-sum-requires-2 c κs = search needs
 
-b-requires : tie.Need-b-requires
-b-requires c κs = search needs
+blue-requires : tie.Need-blue-requires
+blue-requires c κs = search needs
 
 wrapped-sum-requires-3 : tie.Need-wrapped-sum-requires-3
 wrapped-sum-requires-3 c κs = search needs
 
-a-requires : tie.Need-a-requires
-a-requires c κs = search needs
+alpha-requires : tie.Need-alpha-requires
+alpha-requires c κs = search needs
 
-new-requires : tie.Need-new-requires
-new-requires c κs = search needs
+pack-requires : tie.Need-pack-requires
+pack-requires c κs = search needs
 
 returns : tie.Need-returns
+unfolding unpacked
 returns c =
-    simp (c .new .ensures, c .before .a .ensures, c .before .before .wrapped-sum3 .ensures, c .before .before .before .b .ensures, c .before .before .before .before .wrapped-sum2 .ensures, c .before .before .before .before .before .g .ensures, c .before .before .before .before .before .before .wrapped-sum .ensures, c .before .before .before .before .before .before .before .r .ensures)
+    c .pack .ensures
+    ∙ simp (c .before .alpha .ensures, c .before .before .wrapped-sum3 .ensures, c .before .before .before .blue .ensures, c .before .before .before .before .wrapped-sum2 .ensures, c .before .before .before .before .before .green .ensures, c .before .before .before .before .before .before .wrapped-sum .ensures, c .before .before .before .before .before .before .before .red .ensures)
 
 pub shifted-spec : {M : Type 1} → statement M
 shifted-spec =
     tie.close
     (tie.spec
-    r-requires
+    red-requires
     wrapped-sum-requires
-    g-requires
+    green-requires
     wrapped-sum-requires-2
-    b-requires
+    blue-requires
     wrapped-sum-requires-3
-    a-requires
-    new-requires
+    alpha-requires
+    pack-requires
     returns)

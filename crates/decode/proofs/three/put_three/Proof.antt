@@ -1,20 +1,21 @@
--- `decode::inner::put_three` meets its contract: three stores one after another are three bytes put there.
+-- `decode::three::put_three` meets its contract: three stores one after another are three bytes put there.
 -- Assumes nothing.
 use native.Mathlib.Omega.{arith}
 use lib.ListN.{length-set}
 use borrow.Author.Needs.{needs}
+use Rattle.pixel.specs.Packed.{unpacked}
 use Rattle.decode.proofs.Pasting.{stored-three}
-use Rattle.decode.proofs.inner.put_three.Statement.{statement}
-use Rattle.decode.proofs.inner.put_three.Tie as tie
+use Rattle.decode.proofs.three.put_three.Statement.{statement}
+use Rattle.decode.proofs.three.put_three.Tie as tie
 
-element-copy-out-out : tie.Need-element-copy-out-out
-element-copy-out-out c = search needs
+red-requires : tie.Need-red-requires
+red-requires c κs = search needs
 
 slice-write-out : tie.Need-slice-write-out
 slice-write-out c = search needs
 
-element-copy-out-out-2 : tie.Need-element-copy-out-out-2
-element-copy-out-out-2 c = search needs
+green-requires : tie.Need-green-requires
+green-requires c κs = search needs
 
 add-out : tie.Need-add-out
 add-out c = search needs
@@ -22,8 +23,8 @@ add-out c = search needs
 slice-write-out-2 : tie.Need-slice-write-out-2
 slice-write-out-2 c = simp length-set (omega arith)
 
-element-copy-out-out-3 : tie.Need-element-copy-out-out-3
-element-copy-out-out-3 c = search needs
+blue-requires : tie.Need-blue-requires
+blue-requires c κs = search needs
 
 add-out-2 : tie.Need-add-out-2
 add-out-2 c = search needs
@@ -35,18 +36,22 @@ same-length : tie.Need-same-length
 same-length c = search needs
 
 returns : tie.Need-returns
-returns c = stored-three (c .before .before .before .args .out .now) (c .before .before .before .args .at) _ _ _ (omega arith)
+unfolding unpacked
+returns c =
+    let a = c .before .before .before .before .args in
+    rw (c .before .before .red .ensures, c .before .green .ensures, c .blue .ensures)
+    (stored-three (a .out .now) (a .at) _ _ _ (omega arith))
 
 pub put-three-spec : {M : Type 1} → statement M
 put-three-spec =
     tie.close
     (tie.spec
-    element-copy-out-out
+    red-requires
     slice-write-out
-    element-copy-out-out-2
+    green-requires
     add-out
     slice-write-out-2
-    element-copy-out-out-3
+    blue-requires
     add-out-2
     slice-write-out-3
     same-length

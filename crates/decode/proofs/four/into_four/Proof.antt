@@ -1,4 +1,4 @@
--- `decode::inner::into_four` meets its contract: the room test picks the definition's case.
+-- `decode::four::into_four` meets its contract: the room test picks the definition's case.
 -- Assumes nothing.
 use mathlib.Core.Path.{refl}
 use Prim.Native.Nat.{_*_, _<_, _≤_}
@@ -9,8 +9,8 @@ use borrow.Author.Tests.{lt-ltb, le-ltb}
 use Rattle.header.specs.Header.{pixelCount}
 use Rattle.rules.specs.Reading.{readingInto}
 use Rattle.header.proofs.Laws.{pixels-small}
-use Rattle.decode.proofs.inner.into_four.Statement.{statement}
-use Rattle.decode.proofs.inner.into_four.Tie as tie
+use Rattle.decode.proofs.four.into_four.Statement.{statement}
+use Rattle.decode.proofs.four.into_four.Tie as tie
 
 n-pixels-requires : tie.Need-n-pixels-requires
 n-pixels-requires c κs = search needs

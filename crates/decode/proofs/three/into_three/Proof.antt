@@ -1,4 +1,4 @@
--- `decode::inner::into_three` meets its contract: the room test picks the definition's case.
+-- `decode::three::into_three` meets its contract: the room test picks the definition's case.
 -- Assumes nothing.
 use mathlib.Core.Path.{refl}
 use Prim.Native.Nat.{_*_, _<_, _≤_}
@@ -9,8 +9,8 @@ use borrow.Author.Tests.{lt-ltb, le-ltb}
 use Rattle.header.specs.Header.{pixelCount}
 use Rattle.rules.specs.Reading.{readingInto}
 use Rattle.header.proofs.Laws.{pixels-small}
-use Rattle.decode.proofs.inner.into_three.Statement.{statement}
-use Rattle.decode.proofs.inner.into_three.Tie as tie
+use Rattle.decode.proofs.three.into_three.Statement.{statement}
+use Rattle.decode.proofs.three.into_three.Tie as tie
 
 n-pixels-requires : tie.Need-n-pixels-requires
 n-pixels-requires c κs = search needs

@@ -1,22 +1,25 @@
--- `decode::inner::decode_three` meets its contract: at the loop's head what is written, followed by the reading from there, is the whole reading.
+-- `decode::three::decode_three` meets its contract: at the loop's head what is written, followed by the reading from there, is the whole reading.
 -- Assumes nothing.
-use mathlib.Core.Path.{refl, _∙_, ap}
+use mathlib.Core.Path.{refl, sym, _∙_, ap}
 use Prim.Native.Nat.{ℕ, _-_, _*_}
+use native.Mathlib.Omega.{arith}
+use lib.ListN.{List·getD-map}
+use borrow.Author.Needs.{needs}
 use Rattle.pixel.specs.declared.Pixel.{Pixel}
 use Rattle.pixel.specs.Colour.{withAlpha}
+use Rattle.pixel.specs.Packed.{unpacked}
 use Rattle.rules.specs.Decode.{decoderKeeps}
 use Rattle.rules.specs.Reading.{closing}
 use Rattle.decode.specs.Inner.{threeBytes}
-use native.Mathlib.Omega.{arith}
-use borrow.Author.Needs.{needs}
 use Rattle.header.proofs.Laws.{pixels-small}
 use Rattle.decode.proofs.Loop.{Head, begun, ends-cut, ends-closing, finds, index-within, run-some, colour-within, after-index, after-run, after-colour, three-bytes, slot-below}
-use Rattle.decode.proofs.inner.decode_three.Statement.{statement}
-use Rattle.decode.proofs.inner.decode_three.Tie as tie
+use Rattle.decode.proofs.Slots.{slotsOf, slots-set}
+use Rattle.decode.proofs.three.decode_three.Statement.{statement}
+use Rattle.decode.proofs.three.decode_three.Tie as tie
 
 abbrev Inv-loop : tie.InvT-loop
 Inv-loop message header out₀ pixels source slots₀ current₀ at₀ pixel₀ out slots current at pixel =
-    Head header 3 message out₀ pixels source out slots current at pixel
+    Head header 3 message out₀ pixels source out (slotsOf slots) (unpacked current) at pixel
 
 abbrev μ-loop : tie.MeasureT-loop
 μ-loop message header out₀ pixels source slots₀ current₀ at₀ pixel₀ out slots current at pixel = pixels - pixel
@@ -24,23 +27,19 @@ abbrev μ-loop : tie.MeasureT-loop
 n-pixels-requires : tie.Need-n-pixels-requires Inv-loop μ-loop
 n-pixels-requires c κs = search needs
 
-start-requires : tie.Need-start-requires Inv-loop μ-loop
-start-requires c κs = search needs
-
 loop-holds : tie.Need-loop-holds Inv-loop μ-loop
-unfolding decoderKeeps
+unfolding decoderKeeps unpacked
 loop-holds c =
-    let a = c .before .before .before .before .args in
-    rw (c .start .ensures)
-    (record {
-      counted = c .before .n-pixels .ensures;
+    let a = c .before .before .before .args in
+    record {
+      counted = c .n-pixels .ensures;
       sourced = refl;
       few = omega arith;
-      room = c .before .before .before .before .pre .1;
-      small = pixels-small (a .header) (c .before .before .before .before .pre .0 .fit);
+      room = c .before .before .before .pre .1;
+      small = pixels-small (a .header) (c .before .before .before .pre .0 .fit);
       kept = refl;
-      going = begun (a .header) 3 (a .message .now) (a .out .now) (c .before .before .before .before .pre .0 .whole);
-    })
+      going = begun (a .header) 3 (a .message .now) (a .out .now) (c .before .before .before .pre .0 .whole);
+    }
 
 sub-read : tie.Need-sub-read Inv-loop μ-loop
 sub-read c = search needs
@@ -72,16 +71,16 @@ enum-known-slot c = search needs
 cast-i : tie.Need-cast-i Inv-loop μ-loop
 cast-i c = search needs
 
-mul-with-a : tie.Need-mul-with-a Inv-loop μ-loop
-mul-with-a c = search needs
+mul-opaque : tie.Need-mul-opaque Inv-loop μ-loop
+mul-opaque c = search needs
 
-array-copy-out-with-a : tie.Need-array-copy-out-with-a Inv-loop μ-loop
-array-copy-out-with-a c =
+array-read-opaque : tie.Need-array-read-opaque Inv-loop μ-loop
+array-read-opaque c =
     let l = c .before .before .before .before .before .before .loop in
     index-within _ _ _ _ _ _ _ _ _ _ _ (l .inv) _ (finds _ _ _ _ _ _ _ _ _ _ _ (l .inv) _ _ (c .before .before .before .read .ensures) (c .before .slot .given .1))
 
-with-a-requires : tie.Need-with-a-requires Inv-loop μ-loop
-with-a-requires c κs = search needs
+opaque-requires : tie.Need-opaque-requires Inv-loop μ-loop
+opaque-requires c κs = search needs
 
 mul-put-three : tie.Need-mul-put-three Inv-loop μ-loop
 mul-put-three c = search needs
@@ -101,9 +100,10 @@ loop-less c = search needs
 loop-again : tie.Need-loop-again Inv-loop μ-loop
 unfolding decoderKeeps
 loop-again c =
-    let l = c .before .before .before .before .before .before .before .before .before .before .before .before .loop in
-    after-index _ _ _ _ _ _ _ _ _ _ _ (l .inv) (c .before .before .before .before .before .before .before .before .before .before .before .loop-test .taken) threeBytes three-bytes _
-    (finds _ _ _ _ _ _ _ _ _ _ _ (l .inv) _ _ (c .before .before .before .before .before .before .before .before .before .read .ensures) (c .before .before .before .before .before .before .before .slot .given .1)) _ _ (c .before .before .before .before .with-a .ensures) _ (c .before .before .put-three .ensures)
+    let l = c .before .before .before .before .before .before .before .before .before .before .before .loop in
+    after-index _ _ _ _ _ _ _ _ _ _ _ (l .inv) (c .before .before .before .before .before .before .before .before .before .before .loop-test .taken) threeBytes three-bytes _
+    (finds _ _ _ _ _ _ _ _ _ _ _ (l .inv) _ _ (c .before .before .before .before .before .before .before .before .read .ensures) (c .before .before .before .before .before .before .slot .given .1)) (unpacked 0) _
+    (c .before .before .before .before .opaque .ensures ∙ ap (λ (q : Pixel). withAlpha q 255) (sym (List·getD-map unpacked (l .slots) (c .before .before .before .before .before .before .slot .given .0 .0) 0))) _ (c .before .before .put-three .ensures)
 
 enum-known-times : tie.Need-enum-known-times Inv-loop μ-loop
 enum-known-times c = search needs
@@ -144,38 +144,35 @@ loop-again-2 c =
 enum-known-colour : tie.Need-enum-known-colour Inv-loop μ-loop
 enum-known-colour c = search needs
 
+size-requires : tie.Need-size-requires Inv-loop μ-loop
+size-requires c κs = search needs
+
+add-at-3 : tie.Need-add-at-3 Inv-loop μ-loop
+add-at-3 c =
+    let l = c .before .before .before .before .before .before .before .loop in
+    let within = colour-within _ _ _ _ _ _ _ _ _ _ _ (l .inv) (c .before .before .colour .given .0 .0) (finds _ _ _ _ _ _ _ _ _ _ _ (l .inv) _ _ (c .before .before .before .before .read .ensures) (c .before .before .colour .given .1)) in
+    record { fits = omega (arith, c .size .ensures, within) }
+
 recolour-requires : tie.Need-recolour-requires Inv-loop μ-loop
 recolour-requires c κs = search needs
 
-with-a-requires-2 : tie.Need-with-a-requires-2 Inv-loop μ-loop
-with-a-requires-2 c κs = search needs
+opaque-requires-2 : tie.Need-opaque-requires-2 Inv-loop μ-loop
+opaque-requires-2 c κs = search needs
 
-hash-index-requires : tie.Need-hash-index-requires Inv-loop μ-loop
-hash-index-requires c κs = search needs
-
-cast-i-2 : tie.Need-cast-i-2 Inv-loop μ-loop
-cast-i-2 c = search needs
+slot-requires : tie.Need-slot-requires Inv-loop μ-loop
+slot-requires c κs = search needs
 
 mul-slots : tie.Need-mul-slots Inv-loop μ-loop
-mul-slots c = search needs
+mul-slots c = record { fits = omega (arith, c .slot2 .ensures, slot-below (unpacked (c .before .opaque2 .result))) }
 
-array-set-from-slots : tie.Need-array-set-from-slots Inv-loop μ-loop
-array-set-from-slots c = rw (c .hash-index .ensures) (slot-below _)
+array-write-slots : tie.Need-array-write-slots Inv-loop μ-loop
+array-write-slots c = rw (c .slot2 .ensures) (slot-below _)
 
 mul-put-three-2 : tie.Need-mul-put-three-2 Inv-loop μ-loop
 mul-put-three-2 c = search needs
 
 put-three-requires-2 : tie.Need-put-three-requires-2 Inv-loop μ-loop
 put-three-requires-2 c κs = search needs
-
-size-requires : tie.Need-size-requires Inv-loop μ-loop
-size-requires c κs = search needs
-
-add-at-3 : tie.Need-add-at-3 Inv-loop μ-loop
-add-at-3 c =
-    let l = c .before .before .before .before .before .before .before .before .before .before .before .before .before .before .loop in
-    let within = colour-within _ _ _ _ _ _ _ _ _ _ _ (l .inv) (c .before .before .before .before .before .before .before .before .before .colour .given .0 .0) (finds _ _ _ _ _ _ _ _ _ _ _ (l .inv) _ _ (c .before .before .before .before .before .before .before .before .before .before .before .read .ensures) (c .before .before .before .before .before .before .before .before .before .colour .given .1)) in
-    record { fits = omega (arith, c .size .ensures, within) }
 
 add-pixel-3 : tie.Need-add-pixel-3 Inv-loop μ-loop
 add-pixel-3 c = search needs
@@ -187,10 +184,9 @@ loop-again-3 : tie.Need-loop-again-3 Inv-loop μ-loop
 unfolding decoderKeeps
 loop-again-3 c =
     let l = c .before .before .before .before .before .before .before .before .before .before .before .before .before .before .loop in
-    rw (c .size .ensures, c .before .before .before .before .before .hash-index .ensures)
+    rw (slots-set, c .before .before .before .before .before .before .before .size .ensures, c .before .before .before .before .slot2 .ensures)
     (after-colour _ _ _ _ _ _ _ _ _ _ _ (l .inv) (c .before .before .before .before .before .before .before .before .before .before .before .before .before .loop-test .taken) threeBytes three-bytes (c .before .before .before .before .before .before .before .before .before .colour .given .0 .0)
-    (finds _ _ _ _ _ _ _ _ _ _ _ (l .inv) _ _ (c .before .before .before .before .before .before .before .before .before .before .before .read .ensures) (c .before .before .before .before .before .before .before .before .before .colour .given .1)) _
-    (c .before .before .before .before .before .before .with-a2 .ensures ∙ ap (λ (q : Pixel). withAlpha q 255) (c .before .before .before .before .before .before .before .recolour .ensures)) _ (c .before .before .before .put-three2 .ensures))
+    (finds _ _ _ _ _ _ _ _ _ _ _ (l .inv) _ _ (c .before .before .before .before .before .before .before .before .before .before .before .read .ensures) (c .before .before .before .before .before .before .before .before .before .colour .given .1)) _ (c .before .before .before .before .before .opaque2 .ensures ∙ ap (λ (q : Pixel). withAlpha q 255) (c .before .before .before .before .before .before .recolour .ensures)) _ (c .before .before .put-three2 .ensures))
 
 n-pixels-requires-2 : tie.Need-n-pixels-requires-2 Inv-loop μ-loop
 n-pixels-requires-2 c κs = search needs
@@ -208,7 +204,7 @@ returns-2 : tie.Need-returns-2 Inv-loop μ-loop
 returns-2 c =
     let l = c .before .before .before .loop in
     let end = ends-closing _ _ _ _ _ _ _ _ _ (l .inv .going) (omega (arith, l .inv .counted)) (l .inv .room) in
-    (c .close .ensures ∙ ap (λ (n : ℕ). closing (n * 3) (c .before .before .before .before .before .before .before .before .args .message .now) (l .at)) (c .before .n-pixels2 .ensures) ∙ end .0, end .1)
+    (c .close .ensures ∙ ap (λ (n : ℕ). closing (n * 3) (c .before .before .before .before .before .before .before .args .message .now) (l .at)) (c .before .n-pixels2 .ensures) ∙ end .0, end .1)
 
 pub decode-three-spec : {M : Type 1} → statement M
 decode-three-spec =
@@ -217,7 +213,6 @@ decode-three-spec =
     Inv-loop
     μ-loop
     n-pixels-requires
-    start-requires
     loop-holds
     sub-read
     part-read-start
@@ -228,9 +223,9 @@ decode-three-spec =
     returns
     enum-known-slot
     cast-i
-    mul-with-a
-    array-copy-out-with-a
-    with-a-requires
+    mul-opaque
+    array-read-opaque
+    opaque-requires
     mul-put-three
     put-three-requires
     add-at
@@ -248,16 +243,15 @@ decode-three-spec =
     loop-less-2
     loop-again-2
     enum-known-colour
-    recolour-requires
-    with-a-requires-2
-    hash-index-requires
-    cast-i-2
-    mul-slots
-    array-set-from-slots
-    mul-put-three-2
-    put-three-requires-2
     size-requires
     add-at-3
+    recolour-requires
+    opaque-requires-2
+    slot-requires
+    mul-slots
+    array-write-slots
+    mul-put-three-2
+    put-three-requires-2
     add-pixel-3
     loop-less-3
     loop-again-3

@@ -1,20 +1,23 @@
--- `decode::inner::decode_four` meets its contract: at the loop's head what is written, followed by the reading from there, is the whole reading.
+-- `decode::four::decode_four` meets its contract: at the loop's head what is written, followed by the reading from there, is the whole reading.
 -- Assumes nothing.
-use mathlib.Core.Path.{refl, _∙_, ap}
+use mathlib.Core.Path.{refl, sym, _∙_, ap}
 use Prim.Native.Nat.{ℕ, _-_, _*_}
+use native.Mathlib.Omega.{arith}
+use lib.ListN.{List·getD-map}
+use borrow.Author.Needs.{needs}
+use Rattle.pixel.specs.Packed.{unpacked}
+use Rattle.rules.specs.Decode.{decoderKeeps}
 use Rattle.rules.specs.Reading.{closing}
 use Rattle.decode.specs.Inner.{fourBytes}
-use Rattle.rules.specs.Decode.{decoderKeeps}
-use native.Mathlib.Omega.{arith}
-use borrow.Author.Needs.{needs}
 use Rattle.header.proofs.Laws.{pixels-small}
 use Rattle.decode.proofs.Loop.{Head, begun, ends-cut, ends-closing, finds, index-within, run-some, colour-within, after-index, after-run, after-colour, four-bytes, slot-below}
-use Rattle.decode.proofs.inner.decode_four.Statement.{statement}
-use Rattle.decode.proofs.inner.decode_four.Tie as tie
+use Rattle.decode.proofs.Slots.{slotsOf, slots-set}
+use Rattle.decode.proofs.four.decode_four.Statement.{statement}
+use Rattle.decode.proofs.four.decode_four.Tie as tie
 
 abbrev Inv-loop : tie.InvT-loop
 Inv-loop message header out₀ pixels source slots₀ current₀ at₀ pixel₀ out slots current at pixel =
-    Head header 4 message out₀ pixels source out slots current at pixel
+    Head header 4 message out₀ pixels source out (slotsOf slots) (unpacked current) at pixel
 
 abbrev μ-loop : tie.MeasureT-loop
 μ-loop message header out₀ pixels source slots₀ current₀ at₀ pixel₀ out slots current at pixel = pixels - pixel
@@ -22,23 +25,19 @@ abbrev μ-loop : tie.MeasureT-loop
 n-pixels-requires : tie.Need-n-pixels-requires Inv-loop μ-loop
 n-pixels-requires c κs = search needs
 
-start-requires : tie.Need-start-requires Inv-loop μ-loop
-start-requires c κs = search needs
-
 loop-holds : tie.Need-loop-holds Inv-loop μ-loop
-unfolding decoderKeeps
+unfolding decoderKeeps unpacked
 loop-holds c =
-    let a = c .before .before .before .before .args in
-    rw (c .start .ensures)
-    (record {
-      counted = c .before .n-pixels .ensures;
+    let a = c .before .before .before .args in
+    record {
+      counted = c .n-pixels .ensures;
       sourced = refl;
       few = omega arith;
-      room = c .before .before .before .before .pre .1;
-      small = pixels-small (a .header) (c .before .before .before .before .pre .0 .fit);
+      room = c .before .before .before .pre .1;
+      small = pixels-small (a .header) (c .before .before .before .pre .0 .fit);
       kept = refl;
-      going = begun (a .header) 4 (a .message .now) (a .out .now) (c .before .before .before .before .pre .0 .whole);
-    })
+      going = begun (a .header) 4 (a .message .now) (a .out .now) (c .before .before .before .pre .0 .whole);
+    }
 
 sub-read : tie.Need-sub-read Inv-loop μ-loop
 sub-read c = search needs
@@ -73,8 +72,8 @@ cast-i c = search needs
 mul-current : tie.Need-mul-current Inv-loop μ-loop
 mul-current c = search needs
 
-array-copy-out-current : tie.Need-array-copy-out-current Inv-loop μ-loop
-array-copy-out-current c =
+array-read-current : tie.Need-array-read-current Inv-loop μ-loop
+array-read-current c =
     let l = c .before .before .before .before .before .before .loop in
     index-within _ _ _ _ _ _ _ _ _ _ _ (l .inv) _ (finds _ _ _ _ _ _ _ _ _ _ _ (l .inv) _ _ (c .before .before .before .read .ensures) (c .before .slot .given .1))
 
@@ -96,8 +95,10 @@ loop-less c = search needs
 loop-again : tie.Need-loop-again Inv-loop μ-loop
 unfolding decoderKeeps
 loop-again c =
-    let l = c .before .before .before .before .before .before .before .before .before .before .before .loop in
-    after-index _ _ _ _ _ _ _ _ _ _ _ (l .inv) (c .before .before .before .before .before .before .before .before .before .before .loop-test .taken) fourBytes four-bytes _ (finds _ _ _ _ _ _ _ _ _ _ _ (l .inv) _ _ (c .before .before .before .before .before .before .before .before .read .ensures) (c .before .before .before .before .before .before .slot .given .1)) _ _ refl _ (c .before .before .put-four .ensures)
+    let l = c .before .before .before .before .before .before .before .before .before .before .loop in
+    after-index _ _ _ _ _ _ _ _ _ _ _ (l .inv) (c .before .before .before .before .before .before .before .before .before .loop-test .taken) fourBytes four-bytes _
+    (finds _ _ _ _ _ _ _ _ _ _ _ (l .inv) _ _ (c .before .before .before .before .before .before .before .read .ensures) (c .before .before .before .before .before .slot .given .1)) (unpacked 0) _
+    (sym (List·getD-map unpacked (l .slots) (c .before .before .before .before .before .slot .given .0 .0) 0)) _ (c .before .before .put-four .ensures)
 
 enum-known-times : tie.Need-enum-known-times Inv-loop μ-loop
 enum-known-times c = search needs
@@ -132,40 +133,38 @@ loop-less-2 c =
 loop-again-2 : tie.Need-loop-again-2 Inv-loop μ-loop
 loop-again-2 c =
     let l = c .before .before .before .before .before .before .before .before .before .before .before .loop in
-    after-run _ _ _ _ _ _ _ _ _ _ _ (l .inv) (c .before .before .before .before .before .before .before .before .before .before .loop-test .taken) fourBytes four-bytes _ _ (finds _ _ _ _ _ _ _ _ _ _ _ (l .inv) _ _ (c .before .before .before .before .before .before .before .before .read .ensures) (c .before .before .before .before .before .before .times .given .1)) (c .before .before .before .before .least .ensures) _ (c .before .before .fill-four .ensures)
+    after-run _ _ _ _ _ _ _ _ _ _ _ (l .inv) (c .before .before .before .before .before .before .before .before .before .before .loop-test .taken) fourBytes four-bytes _ _
+    (finds _ _ _ _ _ _ _ _ _ _ _ (l .inv) _ _ (c .before .before .before .before .before .before .before .before .read .ensures) (c .before .before .before .before .before .before .times .given .1)) (c .before .before .before .before .least .ensures) _ (c .before .before .fill-four .ensures)
 
 enum-known-colour : tie.Need-enum-known-colour Inv-loop μ-loop
 enum-known-colour c = search needs
-
-recolour-requires : tie.Need-recolour-requires Inv-loop μ-loop
-recolour-requires c κs = search needs
-
-hash-index-requires : tie.Need-hash-index-requires Inv-loop μ-loop
-hash-index-requires c κs = search needs
-
-cast-i-2 : tie.Need-cast-i-2 Inv-loop μ-loop
-cast-i-2 c = search needs
-
-mul-slots : tie.Need-mul-slots Inv-loop μ-loop
-mul-slots c = search needs
-
-array-set-from-slots : tie.Need-array-set-from-slots Inv-loop μ-loop
-array-set-from-slots c = rw (c .hash-index .ensures) (slot-below _)
-
-mul-put-four-2 : tie.Need-mul-put-four-2 Inv-loop μ-loop
-mul-put-four-2 c = search needs
-
-put-four-requires-2 : tie.Need-put-four-requires-2 Inv-loop μ-loop
-put-four-requires-2 c κs = search needs
 
 size-requires : tie.Need-size-requires Inv-loop μ-loop
 size-requires c κs = search needs
 
 add-at-3 : tie.Need-add-at-3 Inv-loop μ-loop
 add-at-3 c =
-    let l = c .before .before .before .before .before .before .before .before .before .before .before .before .before .loop in
-    let within = colour-within _ _ _ _ _ _ _ _ _ _ _ (l .inv) (c .before .before .before .before .before .before .before .before .colour .given .0 .0) (finds _ _ _ _ _ _ _ _ _ _ _ (l .inv) _ _ (c .before .before .before .before .before .before .before .before .before .before .read .ensures) (c .before .before .before .before .before .before .before .before .colour .given .1)) in
+    let l = c .before .before .before .before .before .before .before .loop in
+    let within = colour-within _ _ _ _ _ _ _ _ _ _ _ (l .inv) (c .before .before .colour .given .0 .0) (finds _ _ _ _ _ _ _ _ _ _ _ (l .inv) _ _ (c .before .before .before .before .read .ensures) (c .before .before .colour .given .1)) in
     record { fits = omega (arith, c .size .ensures, within) }
+
+recolour-requires : tie.Need-recolour-requires Inv-loop μ-loop
+recolour-requires c κs = search needs
+
+slot-requires : tie.Need-slot-requires Inv-loop μ-loop
+slot-requires c κs = search needs
+
+mul-slots : tie.Need-mul-slots Inv-loop μ-loop
+mul-slots c = record { fits = omega (arith, c .slot2 .ensures, slot-below (unpacked (c .before .recolour .result))) }
+
+array-write-slots : tie.Need-array-write-slots Inv-loop μ-loop
+array-write-slots c = rw (c .slot2 .ensures) (slot-below _)
+
+mul-put-four-2 : tie.Need-mul-put-four-2 Inv-loop μ-loop
+mul-put-four-2 c = search needs
+
+put-four-requires-2 : tie.Need-put-four-requires-2 Inv-loop μ-loop
+put-four-requires-2 c κs = search needs
 
 add-pixel-3 : tie.Need-add-pixel-3 Inv-loop μ-loop
 add-pixel-3 c = search needs
@@ -177,9 +176,9 @@ loop-again-3 : tie.Need-loop-again-3 Inv-loop μ-loop
 unfolding decoderKeeps
 loop-again-3 c =
     let l = c .before .before .before .before .before .before .before .before .before .before .before .before .before .loop in
-    rw (c .size .ensures, c .before .before .before .before .before .hash-index .ensures)
+    rw (slots-set, c .before .before .before .before .before .before .size .ensures, c .before .before .before .before .slot2 .ensures)
     (after-colour _ _ _ _ _ _ _ _ _ _ _ (l .inv) (c .before .before .before .before .before .before .before .before .before .before .before .before .loop-test .taken) fourBytes four-bytes (c .before .before .before .before .before .before .before .before .colour .given .0 .0)
-    (finds _ _ _ _ _ _ _ _ _ _ _ (l .inv) _ _ (c .before .before .before .before .before .before .before .before .before .before .read .ensures) (c .before .before .before .before .before .before .before .before .colour .given .1)) _ (c .before .before .before .before .before .before .recolour .ensures) _ (c .before .before .before .put-four2 .ensures))
+    (finds _ _ _ _ _ _ _ _ _ _ _ (l .inv) _ _ (c .before .before .before .before .before .before .before .before .before .before .read .ensures) (c .before .before .before .before .before .before .before .before .colour .given .1)) _ (c .before .before .before .before .before .recolour .ensures) _ (c .before .before .put-four2 .ensures))
 
 n-pixels-requires-2 : tie.Need-n-pixels-requires-2 Inv-loop μ-loop
 n-pixels-requires-2 c κs = search needs
@@ -197,7 +196,7 @@ returns-2 : tie.Need-returns-2 Inv-loop μ-loop
 returns-2 c =
     let l = c .before .before .before .loop in
     let end = ends-closing _ _ _ _ _ _ _ _ _ (l .inv .going) (omega (arith, l .inv .counted)) (l .inv .room) in
-    (c .close .ensures ∙ ap (λ (n : ℕ). closing (n * 4) (c .before .before .before .before .before .before .before .before .args .message .now) (l .at)) (c .before .n-pixels2 .ensures) ∙ end .0, end .1)
+    (c .close .ensures ∙ ap (λ (n : ℕ). closing (n * 4) (c .before .before .before .before .before .before .before .args .message .now) (l .at)) (c .before .n-pixels2 .ensures) ∙ end .0, end .1)
 
 pub decode-four-spec : {M : Type 1} → statement M
 decode-four-spec =
@@ -206,7 +205,6 @@ decode-four-spec =
     Inv-loop
     μ-loop
     n-pixels-requires
-    start-requires
     loop-holds
     sub-read
     part-read-start
@@ -218,7 +216,7 @@ decode-four-spec =
     enum-known-slot
     cast-i
     mul-current
-    array-copy-out-current
+    array-read-current
     mul-put-four
     put-four-requires
     add-at
@@ -236,15 +234,14 @@ decode-four-spec =
     loop-less-2
     loop-again-2
     enum-known-colour
-    recolour-requires
-    hash-index-requires
-    cast-i-2
-    mul-slots
-    array-set-from-slots
-    mul-put-four-2
-    put-four-requires-2
     size-requires
     add-at-3
+    recolour-requires
+    slot-requires
+    mul-slots
+    array-write-slots
+    mul-put-four-2
+    put-four-requires-2
     add-pixel-3
     loop-less-3
     loop-again-3

@@ -1,17 +1,18 @@
--- `decode::inner::fill_three` meets its contract: the loop has put the bytes as often as it turned.
+-- `decode::three::fill_three` meets its contract: the loop has put the bytes as often as it turned.
 -- Assumes nothing.
 use Prim.Native.Nat.{ℕ, _≤_, _-_, _+_, _*_}
 use mathlib.Core.Path.{_≡_, refl, sym, _∙_, ap}
 use native.Mathlib.Omega.{arith}
 use lib.ListN.{length}
 use Rattle.rules.specs.Reading.{pasted, repeated}
+use Rattle.pixel.specs.Packed.{unpacked}
 use Rattle.decode.specs.Inner.{threeBytes}
 use Rattle.decode.proofs.Pasting.{pasted-none, filled-more}
-use Rattle.decode.proofs.inner.fill_three.Statement.{statement}
-use Rattle.decode.proofs.inner.fill_three.Tie as tie
+use Rattle.decode.proofs.three.fill_three.Statement.{statement}
+use Rattle.decode.proofs.three.fill_three.Tie as tie
 
 abbrev Inv-loop : tie.InvT-loop
-Inv-loop out₀ at times p i₀ out i = (i ≤ times) × (length out ≡ length out₀) × (out ≡ pasted at (repeated i (threeBytes p)) out₀)
+Inv-loop out₀ at times p i₀ out i = (i ≤ times) × (length out ≡ length out₀) × (out ≡ pasted at (repeated i (threeBytes (unpacked p))) out₀)
 
 abbrev μ-loop : tie.MeasureT-loop
 μ-loop out₀ at times p i₀ out i = times - i
@@ -39,7 +40,7 @@ loop-again : tie.Need-loop-again Inv-loop μ-loop
 loop-again c =
     let a = c .before .before .before .before .before .before .before .args in
     let l = c .before .before .before .before .before .loop in
-    (omega arith, c .before .before .put-three .kept .0 ∙ l .inv .1, c .before .before .put-three .ensures ∙ ap (pasted (a .at + l .i * 3) (threeBytes (a .p))) (l .inv .2) ∙ filled-more (a .out .now) (a .at) (l .i) (threeBytes (a .p)) (omega arith))
+    (omega arith, c .before .before .put-three .kept .0 ∙ l .inv .1, c .before .before .put-three .ensures ∙ ap (pasted (a .at + l .i * 3) (threeBytes (unpacked (a .p)))) (l .inv .2) ∙ filled-more (a .out .now) (a .at) (l .i) (threeBytes (unpacked (a .p))) (omega arith))
 
 same-length : tie.Need-same-length Inv-loop μ-loop
 same-length c = c .before .loop .inv .1
@@ -48,7 +49,7 @@ returns : tie.Need-returns Inv-loop μ-loop
 returns c =
     let a = c .before .before .before .args in
     let all : c .before .loop .i ≡ a .times = omega arith in
-    c .before .loop .inv .2 ∙ ap (λ (k : ℕ). pasted (a .at) (repeated k (threeBytes (a .p))) (a .out .now)) all
+    c .before .loop .inv .2 ∙ ap (λ (k : ℕ). pasted (a .at) (repeated k (threeBytes (unpacked (a .p)))) (a .out .now)) all
 
 pub fill-three-spec : {M : Type 1} → statement M
 fill-three-spec =
