@@ -1,4 +1,5 @@
 // What each group of cases asks of the port.
+use crate::decodes;
 use header::Header;
 use header::HeaderRead;
 use pixel::error::Error;
@@ -22,14 +23,14 @@ impl Answer {
             && self.figures[3] == other.figures[3]
     }
 
-    fn accepted(a: u64, b: u64, c: u64, d: u64) -> Self {
+    pub fn accepted(a: u64, b: u64, c: u64, d: u64) -> Self {
         Answer {
             number: 0,
             figures: [a, b, c, d],
         }
     }
 
-    fn refused(e: Error) -> Self {
+    pub fn refused(e: Error) -> Self {
         Answer {
             number: e.number(),
             figures: e.figures(),
@@ -37,7 +38,7 @@ impl Answer {
     }
 
     // An answer that no case has: two digits do not hold its number.
-    fn none() -> Self {
+    pub fn none() -> Self {
         Answer {
             number: 256,
             figures: [0, 0, 0, 0],
@@ -54,6 +55,7 @@ pub fn asked(group: u8, input: &[u8]) -> Answer {
         b'g' => header_written(input),
         b'h' => channels(input),
         b'i' => color_space(input),
+        b'j'..=b'l' => decodes::asked(input),
         _ => Answer::none(),
     }
 }
@@ -153,14 +155,14 @@ fn room(input: &[u8]) -> Answer {
     )
 }
 
-// Whether what follows the tenth byte is just these fourteen.
-fn follow(bytes: &[u8; 14], input: &[u8]) -> bool {
-    if input.len() != 24 {
+// Whether two slices have the same bytes.
+pub fn equal(a: &[u8], b: &[u8]) -> bool {
+    if a.len() != b.len() {
         return false;
     }
     let mut i = 0;
-    while i < 14 {
-        if bytes[i] != input[i + 10] {
+    while i < a.len() {
+        if a[i] != b[i] {
             return false;
         }
         i += 1;
@@ -170,12 +172,15 @@ fn follow(bytes: &[u8; 14], input: &[u8]) -> bool {
 
 // The fourteen bytes of a header that ten name, with those that the Rust wrote after the ten.
 fn header_written(input: &[u8]) -> Answer {
+    if input.len() < 10 {
+        return Answer::none();
+    }
     let made = header_named(input);
     match made {
         HeaderRead::Refused(e) => Answer::refused(e),
         HeaderRead::Ok(h) => {
             let bytes = h.encode();
-            if follow(&bytes, input) {
+            if equal(&bytes, &input[10..]) {
                 Answer::accepted(0, 0, 0, 0)
             } else {
                 Answer::none()

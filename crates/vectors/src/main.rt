@@ -8,6 +8,7 @@ use libc::STDIN_FILENO;
 use tally::Tally;
 
 mod case;
+mod decodes;
 mod groups;
 mod hex;
 mod tally;

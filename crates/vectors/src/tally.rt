@@ -2,20 +2,20 @@
 ghost use Prim.Native.Nat.{_<_};
 use libc::STDOUT_FILENO;
 
-// A place for each of the letters from a to i, and the last for any other.
+// A place for each of the letters from a to l, and the last for any other.
 pub struct Tally {
-    cases: [u64; 10],
-    agreed: [u64; 10],
+    cases: [u64; 13],
+    agreed: [u64; 13],
 }
 
 fn place(letter: u8) -> usize
-    ensures { λ r. ⌜ r < 10 ⌝ }
+    ensures { λ r. ⌜ r < 13 ⌝ }
 {
     if letter < b'a' {
-        return 9;
+        return 12;
     }
-    if b'i' < letter {
-        return 9;
+    if b'l' < letter {
+        return 12;
     }
     (letter - 97) as usize
 }
@@ -36,8 +36,8 @@ fn print(name: &[u8], agreed: u64, cases: u64) {
 impl Tally {
     pub fn new() -> Self {
         Tally {
-            cases: [0; 10],
-            agreed: [0; 10],
+            cases: [0; 13],
+            agreed: [0; 13],
         }
     }
 
@@ -61,8 +61,11 @@ impl Tally {
         print(b"header written", self.agreed[6], self.cases[6]);
         print(b"channel counts", self.agreed[7], self.cases[7]);
         print(b"colour spaces", self.agreed[8], self.cases[8]);
-        if 0 < self.cases[9] {
-            print(b"of no group", self.agreed[9], self.cases[9]);
+        print(b"decode accepted", self.agreed[9], self.cases[9]);
+        print(b"decode refused", self.agreed[10], self.cases[10]);
+        print(b"decode corners", self.agreed[11], self.cases[11]);
+        if 0 < self.cases[12] {
+            print(b"of no group", self.agreed[12], self.cases[12]);
         }
     }
 }

@@ -1,14 +1,15 @@
--- `vectors::groups::follow` is safe and ends: the index is below 14, and ten more are below 24.
+-- `vectors::groups::equal` is safe and ends: the index is below both lengths.
 use Prim.Native.Nat.{_-_}
+use lib.ListN.{length}
 use borrow.Author.Needs.{needs}
-use Rattle.vectors.proofs.groups.follow.Statement.{statement}
-use Rattle.vectors.proofs.groups.follow.Tie as tie
+use Rattle.vectors.proofs.groups.equal.Statement.{statement}
+use Rattle.vectors.proofs.groups.equal.Tie as tie
 
 abbrev Inv-loop : tie.InvT-loop
-Inv-loop bytes input i₀ i = Unit {0}
+Inv-loop a b i₀ i = Unit {0}
 
 abbrev μ-loop : tie.MeasureT-loop
-μ-loop bytes input i₀ i = 14 - i
+μ-loop a b i₀ i = length a - i
 
 returns : tie.Need-returns Inv-loop μ-loop
 returns c = search needs
@@ -16,14 +17,11 @@ returns c = search needs
 loop-holds : tie.Need-loop-holds Inv-loop μ-loop
 loop-holds c = search needs
 
-element-copy-out-if2 : tie.Need-element-copy-out-if2 Inv-loop μ-loop
-element-copy-out-if2 c = search needs
-
-add-if2 : tie.Need-add-if2 Inv-loop μ-loop
-add-if2 c = search needs
-
 shared-slice-read-if2 : tie.Need-shared-slice-read-if2 Inv-loop μ-loop
 shared-slice-read-if2 c = search needs
+
+shared-slice-read-if2-2 : tie.Need-shared-slice-read-if2-2 Inv-loop μ-loop
+shared-slice-read-if2-2 c = search needs
 
 returns-2 : tie.Need-returns-2 Inv-loop μ-loop
 returns-2 c = search needs
@@ -40,17 +38,16 @@ loop-again c = search needs
 returns-3 : tie.Need-returns-3 Inv-loop μ-loop
 returns-3 c = search needs
 
-pub follow-spec : {M : Type 1} → statement M
-follow-spec =
+pub equal-spec : {M : Type 1} → statement M
+equal-spec =
     tie.close
     (tie.spec
     Inv-loop
     μ-loop
     returns
     loop-holds
-    element-copy-out-if2
-    add-if2
     shared-slice-read-if2
+    shared-slice-read-if2-2
     returns-2
     add-i
     loop-less

@@ -1,0 +1,17 @@
+-- `vectors::decodes::picture` is safe: the product of two numbers of fewer than 32 bits has 64.
+use borrow.Author.Needs.{needs}
+use Rattle.header.proofs.Laws.{product-fits}
+use Rattle.vectors.proofs.decodes.picture.Statement.{statement}
+use Rattle.vectors.proofs.decodes.picture.Tie as tie
+
+mul-result : tie.Need-mul-result
+mul-result c = record { fits = product-fits (search needs) (search needs) }
+
+returns : tie.Need-returns
+returns c = search needs
+
+returns-2 : tie.Need-returns-2
+returns-2 c = search needs
+
+pub picture-spec : {M : Type 1} → statement M
+picture-spec = tie.close (tie.spec mul-result returns returns-2)
