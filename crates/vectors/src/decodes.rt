@@ -68,7 +68,7 @@ fn lent(message: &[u8], wanted: u8, short: u8, room: &mut [u8], left: &[u8]) -> 
     if room.len() < n {
         return Answer::none();
     }
-    decoded(message, wanted, &mut room[..n], left)
+    decoded(message, wanted, &mut room[0..n], left)
 }
 
 fn big_endian(high: u8, low: u8) -> usize {
