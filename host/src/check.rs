@@ -1,0 +1,211 @@
+// One case: the port and the Rust are called on the same input, over memory that holds the same bytes before, and any difference is kept.
+use crate::answer::Answer;
+use crate::random::Random;
+use crate::{oracle, port};
+use std::fmt::Write;
+
+pub const MARKER: [u8; 8] = [0, 0, 0, 0, 0, 0, 0, 1];
+
+/// Bytes before and after an output, which no call may touch.
+const MARGIN: usize = 64;
+
+/// So many patterns stand in memory by turns.
+const PATTERNS: usize = 1021;
+
+/// So many differences are kept: those of the shortest messages, and of a message its first so many bytes.
+const KEPT: usize = 5;
+const SHOWN: usize = 2000;
+
+/// How many cases the Rust answered with each number, and how often the port did otherwise.
+#[derive(Clone, Copy, Default)]
+pub struct Tally {
+    pub answers: [u64; 9],
+    pub differences: u64,
+}
+
+impl Tally {
+    pub fn cases(&self) -> u64 {
+        self.answers.iter().sum()
+    }
+
+    pub fn add(&mut self, other: &Tally) {
+        for (sum, more) in self.answers.iter_mut().zip(other.answers) {
+            *sum += more;
+        }
+        self.differences += other.differences;
+    }
+}
+
+pub struct Difference {
+    length: usize,
+    pub text: String,
+}
+
+#[derive(Default)]
+pub struct Check {
+    tally: Tally,
+    kind: String,
+    found: Vec<Difference>,
+    turn: usize,
+    pattern: Vec<u8>,
+    ours: Vec<u8>,
+    rusts: Vec<u8>,
+}
+
+impl Check {
+    /// The cases from here on are of this kind.
+    pub fn begin(&mut self, kind: &str) {
+        self.kind = kind.to_string();
+        self.tally = Tally::default();
+    }
+
+    pub fn tally(&self) -> Tally {
+        self.tally
+    }
+
+    pub fn found(&self) -> &[Difference] {
+        &self.found
+    }
+
+    /// A case of the header.
+    pub fn header(&mut self, message: &[u8]) {
+        let (ours, rusts) = (port::header(message), oracle::header(message));
+        self.tally.answers[rusts.number as usize] += 1;
+        if ours != rusts {
+            self.differs("header", &format!("port {ours}, Rust {rusts}"), message);
+        }
+    }
+
+    /// A case of decode, into an output of `room` bytes.
+    pub fn decode(&mut self, message: &[u8], wanted: u64, room: usize) {
+        let (rusts, result) = self.both(message, wanted, room);
+        self.tally.answers[rusts.number as usize] += 1;
+        if let Err(text) = result.and_then(|ours| self.used(ours, message, wanted, room)) {
+            self.differs(
+                &format!("decode to {wanted} channels, output of {room} bytes"),
+                &text,
+                message,
+            );
+        }
+    }
+
+    /// What else was expected of a call, beside the Rust's answer.
+    pub fn expect(&mut self, holds: bool, what: &str, message: &[u8]) {
+        if !holds {
+            self.differs(what, "expected otherwise", message);
+        }
+    }
+
+    /// The Rust's answer, and the port's if it is the same in number, figures and memory.
+    fn both(
+        &mut self,
+        message: &[u8],
+        wanted: u64,
+        room: usize,
+    ) -> (Answer, Result<Answer, String>) {
+        self.turn += 1;
+        let start = MARGIN + self.turn % 8;
+        let end = start + room;
+        let shift = self.turn % PATTERNS;
+        self.stretch_pattern(end + MARGIN + PATTERNS);
+        let before = &self.pattern[shift..shift + end + MARGIN];
+        for memory in [&mut self.ours, &mut self.rusts] {
+            memory.clear();
+            memory.extend_from_slice(before);
+        }
+        let ours = port::decode(message, wanted, &mut self.ours[start..end]);
+        let mut rusts = oracle::decode(message, wanted, &mut self.rusts[start..end]);
+        if rusts.is_accepted() {
+            // the Rust does not say how many bytes it used: `used` finds out
+            rusts.figures[1] = ours.figures[1];
+        }
+        let result = if ours != rusts {
+            Err(format!("port {ours}, Rust {rusts}"))
+        } else if self.ours != self.rusts {
+            let place = (0..before.len())
+                .find(|&i| self.ours[i] != self.rusts[i])
+                .expect("they differ");
+            let (o, r, b) = (self.ours[place], self.rusts[place], before[place]);
+            Err(format!(
+                "both {ours}; output byte {}: port {o:02x}, Rust {r:02x}, before {b:02x}",
+                place as isize - start as isize
+            ))
+        } else if (2..=7).contains(&ours.number) && self.ours != before {
+            Err(format!("both {ours}, and both wrote"))
+        } else {
+            Ok(ours)
+        };
+        (rusts, result)
+    }
+
+    /// An accepted answer's `used`: that part of the message ends with the marker and is accepted with the same bytes written, and one byte
+    /// less is cut short; by the port and by the Rust.
+    fn used(
+        &mut self,
+        ours: Answer,
+        message: &[u8],
+        wanted: u64,
+        room: usize,
+    ) -> Result<(), String> {
+        if !ours.is_accepted() {
+            return Ok(());
+        }
+        let [size, used, _, _] = ours.figures;
+        let part = match message.get(..used as usize) {
+            Some(part) if part.ends_with(&MARKER) => part,
+            _ => {
+                return Err(format!(
+                    "port {ours}: used is no part of the message that ends with the marker"
+                ))
+            }
+        };
+        let pixels = self.written(size as usize).to_vec();
+        let again = self.both(part, wanted, room).1?;
+        if again != ours || self.written(size as usize) != pixels {
+            return Err(format!(
+                "port {ours}, but for the used part alone {again}, or other pixels"
+            ));
+        }
+        let less = self.both(&part[..part.len() - 1], wanted, room).1?;
+        if less.number != 1 {
+            return Err(format!(
+                "port {ours}, but {less} for one byte less than the used part"
+            ));
+        }
+        Ok(())
+    }
+
+    /// What the port's last decode wrote.
+    fn written(&self, size: usize) -> &[u8] {
+        &self.ours[MARGIN + self.turn % 8..][..size]
+    }
+
+    fn stretch_pattern(&mut self, length: usize) {
+        if self.pattern.len() < length {
+            let mut random = Random::new(self.pattern.len() as u64);
+            self.pattern
+                .resize_with(length.next_power_of_two(), || random.byte());
+        }
+    }
+
+    fn differs(&mut self, call: &str, text: &str, message: &[u8]) {
+        self.tally.differences += 1;
+        if self.found.len() == KEPT && self.found[KEPT - 1].length <= message.len() {
+            return;
+        }
+        let mut shown = format!(
+            "{}: {call}: {text}; message of {} bytes:\n   ",
+            self.kind,
+            message.len()
+        );
+        for byte in message.iter().take(SHOWN) {
+            write!(shown, " {byte:02x}").expect("a string has room");
+        }
+        self.found.push(Difference {
+            length: message.len(),
+            text: shown,
+        });
+        self.found.sort_by_key(|d| d.length);
+        self.found.truncate(KEPT);
+    }
+}

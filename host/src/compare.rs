@@ -1,0 +1,137 @@
+// The command `compare`: runs the kinds of cases and the images, prints how many of each there were, and how often the port differs from the Rust.
+use crate::answer::Answer;
+use crate::cases::{Cases, KINDS};
+use crate::check::{Check, Tally};
+use crate::images::{self, Image};
+use crate::random::Random;
+use crate::sha256::sha256;
+use crate::{messages, oracle, port};
+use std::path::Path;
+use std::process::ExitCode;
+
+/// A kind that can be run whole is run whole, unless it has more than so many times the cases that were asked for.
+const WHOLE: u64 = 8;
+
+/// Cut and damaged copies of an image are so many times fewer: each is as long as thousands of other cases.
+const IMAGES: u64 = 100;
+const FEWEST: u64 = 1000;
+
+/// The i-th of `total`, in an order whose first few come from all over: each comes once, since the factor is a prime that divides no `total`.
+fn spread(i: u64, total: u64) -> u64 {
+    i * 2_654_435_761 % total
+}
+
+fn run_kind(check: &mut Check, random: &mut Random, kind: &Cases, cases: u64) -> String {
+    match *kind {
+        Cases::All(total, run) => {
+            let count = total.min(cases * WHOLE);
+            for i in 0..count {
+                run(check, spread(i, total));
+            }
+            if count == total {
+                "every one".to_string()
+            } else {
+                format!("1 in {:.1}", total as f64 / count as f64)
+            }
+        }
+        Cases::Some(run) => {
+            while check.tally().cases() < cases {
+                run(check, random);
+            }
+            String::new()
+        }
+    }
+}
+
+/// The images as they are: header, both wanted, and what expected.tsv says of header and pixels.
+fn whole_images(check: &mut Check, images: &[Image]) {
+    for image in images {
+        let message = &image.message[..];
+        check.header(message);
+        for wanted in [3, 4] {
+            check.decode(message, wanted, room(message, wanted));
+        }
+        for (figures, sum) in &image.expected {
+            let wanted = figures[2];
+            let mut pixels = vec![0; room(message, wanted)];
+            port::decode(message, wanted, &mut pixels);
+            check.expect(
+                port::header(message) == Answer::accepted(*figures),
+                "header of expected.tsv",
+                message,
+            );
+            check.expect(sha256(&pixels) == *sum, "SHA-256 of expected.tsv", message);
+        }
+    }
+}
+
+fn room(message: &[u8], wanted: u64) -> usize {
+    oracle::needed(message, wanted).expect("a good header") as usize
+}
+
+fn damaged_images(check: &mut Check, random: &mut Random, images: &[Image], cases: u64) {
+    while check.tally().cases() < cases {
+        let mut message = random.pick(images).message.clone();
+        let wanted = 3 + random.below(2) as u64;
+        let room = room(&message, wanted);
+        if random.one_in(2) {
+            let length = random.below(message.len());
+            check.decode(&message[..length], wanted, room);
+        } else {
+            for _ in 0..random.between(1, 4) {
+                messages::damage(random, &mut message, 14);
+            }
+            check.decode(&message, wanted, room);
+        }
+    }
+}
+
+fn print(kind: &str, tally: &Tally, note: &str) {
+    let (cases, differences) = (tally.cases(), tally.differences);
+    let [accepted, cut, .., no_marker] = tally.answers;
+    let others = cases - accepted - cut - no_marker;
+    println!("{kind:36} {cases:10} {accepted:10} {cut:9} {others:9} {no_marker:9} {differences:11}  {note}");
+}
+
+pub fn run(cases: u64, seed: u64, folder: &Path) -> ExitCode {
+    println!("seed {seed}; the columns after the cases: how the Rust answered them");
+    println!(
+        "{:36} {:>10} {:>10} {:>9} {:>9} {:>9} {:>11}",
+        "kind", "cases", "accepted", "refused 1", "2 to 7", "8", "differences"
+    );
+    let mut check = Check::default();
+    let mut total = Tally::default();
+    // each kind has numbers of its own, so that one kind more or less changes no other
+    let random = |kind: &str| {
+        let step = |sum: u64, byte: u8| sum.wrapping_mul(257).wrapping_add(byte.into());
+        Random::new(kind.bytes().fold(seed, step))
+    };
+    for (kind, which) in &KINDS {
+        check.begin(kind);
+        let note = run_kind(&mut check, &mut random(kind), which, cases);
+        print(kind, &check.tally(), &note);
+        total.add(&check.tally());
+    }
+    let images = images::read(folder);
+    if images.is_empty() {
+        println!("no images at hand: nothing was compared on them");
+    } else {
+        let kind = "published images";
+        check.begin(kind);
+        whole_images(&mut check, &images);
+        print(kind, &check.tally(), "every one");
+        total.add(&check.tally());
+        let kind = "published images, cut or damaged";
+        check.begin(kind);
+        let count = (cases / IMAGES).max(FEWEST);
+        damaged_images(&mut check, &mut random(kind), &images, count);
+        print(kind, &check.tally(), "");
+        total.add(&check.tally());
+    }
+    print("all", &total, "");
+    for difference in check.found() {
+        println!("{}", difference.text);
+    }
+    println!("{} cases, {} differences", total.cases(), total.differences);
+    ExitCode::from(u8::from(total.differences > 0))
+}

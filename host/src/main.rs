@@ -1,0 +1,34 @@
+// The host of the port's exported functions: `host compare` holds them to crate qoi 0.4.1 on the same inputs, `host bench` times them against it.
+mod answer;
+mod bench;
+mod cases;
+mod check;
+mod compare;
+mod images;
+mod messages;
+mod oracle;
+mod pictures;
+mod port;
+mod random;
+mod sha256;
+
+use std::path::PathBuf;
+use std::process::ExitCode;
+
+fn usage() -> ExitCode {
+    eprintln!("usage: host compare CASES SEED IMAGES | host bench IMAGES");
+    ExitCode::from(2)
+}
+
+fn main() -> ExitCode {
+    let words: Vec<String> = std::env::args().skip(1).collect();
+    let words: Vec<&str> = words.iter().map(String::as_str).collect();
+    match words[..] {
+        ["compare", cases, seed, folder] => match (cases.parse(), seed.parse()) {
+            (Ok(cases), Ok(seed)) => compare::run(cases, seed, &PathBuf::from(folder)),
+            _ => usage(),
+        },
+        ["bench", folder] => bench::run(&PathBuf::from(folder)),
+        _ => usage(),
+    }
+}

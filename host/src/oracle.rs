@@ -1,0 +1,71 @@
+// The Rust: what crate qoi 0.4.1 answers, in document 01's numbers. The bytes are what it leaves in the output that it is lent.
+use crate::answer::Answer;
+use qoi::{Channels, ColorSpace, Decoder, Encoder, Error};
+
+/// The number and the figures that document 01's table of refusals gives.
+fn refused(error: &Error) -> Answer {
+    use Error::*;
+    let (number, figures) = match *error {
+        UnexpectedBufferEnd => (1, [0; 4]),
+        InvalidChannels { channels } => (2, [channels.into(), 0, 0, 0]),
+        InvalidColorSpace { colorspace } => (3, [colorspace.into(), 0, 0, 0]),
+        InvalidMagic { magic } => (4, [magic.into(), 0, 0, 0]),
+        InvalidImageDimensions { width, height } => (5, [width.into(), height.into(), 0, 0]),
+        InvalidImageLength {
+            size,
+            width,
+            height,
+        } => (6, [size as u64, width.into(), height.into(), 0]),
+        OutputBufferTooSmall { size, required } => (7, [size as u64, required as u64, 0, 0]),
+        InvalidPadding => (8, [0; 4]),
+        IoError(ref e) => panic!("no slice gives an i/o error: {e}"),
+    };
+    Answer { number, figures }
+}
+
+/// Width, height, channels and colour space.
+pub fn header(message: &[u8]) -> Answer {
+    match qoi::decode_header(message) {
+        Ok(h) => Answer::accepted([
+            h.width.into(),
+            h.height.into(),
+            h.channels.as_u8().into(),
+            h.colorspace.as_u8().into(),
+        ]),
+        Err(e) => refused(&e),
+    }
+}
+
+/// An output longer than needed is lent only as far as needed: document 01 leaves a longer one out, and the Rust reads the marker as chunks there.
+/// The Rust's own type holds no `wanted` other than 3 and 4, and its refusal of other bytes is what such a number is answered with.
+fn decoded(message: &[u8], wanted: u64, out: &mut [u8]) -> qoi::Result<usize> {
+    let decoder = Decoder::new(message)?;
+    let channels = Channels::try_from(wanted.min(255) as u8)?;
+    let mut decoder = decoder.with_channels(channels);
+    let lent = out.len().min(decoder.required_buf_len());
+    decoder.decode_to_buf(&mut out[..lent])
+}
+
+/// Bytes written; how many bytes of the message were used the Rust does not say, and 0 stands there.
+pub fn decode(message: &[u8], wanted: u64, out: &mut [u8]) -> Answer {
+    match decoded(message, wanted, out) {
+        Ok(size) => Answer::accepted([size as u64, 0, 0, 0]),
+        Err(e) => refused(&e),
+    }
+}
+
+/// How many bytes the decode needs, where the header is good.
+pub fn needed(message: &[u8], wanted: u64) -> Option<u64> {
+    let header = qoi::decode_header(message).ok()?;
+    Some((header.n_pixels() as u64).saturating_mul(wanted))
+}
+
+/// A good message: pixels of three or four channels, encoded by the Rust.
+pub fn encode(pixels: &[u8], width: u32, height: u32, colorspace: u8) -> Vec<u8> {
+    let colorspace = ColorSpace::try_from(colorspace).expect("a colour space");
+    let encoder = Encoder::new(&pixels, width, height).expect("a picture");
+    encoder
+        .with_colorspace(colorspace)
+        .encode_to_vec()
+        .expect("a vector has room")
+}
