@@ -1,4 +1,4 @@
-// The port, called as any Rust program would call it: byte slices and plain numbers in, an answer out.
+// The port, called as any Rust program would call it: byte slices and plain numbers in, an answer out. include/pivotshade.h says the same for C.
 use crate::answer::Answer;
 
 extern "C" {
