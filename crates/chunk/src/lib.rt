@@ -7,6 +7,12 @@ ghost use Rattle.rules.specs.Chunk.{chunkAt, colourOf, sizeOf, shifted as shift
 ghost use Rattle.rules.specs.Reading.{sameBytes, marker};
 ghost use Rattle.rules.specs.Decode.{decoderReadsRgba};
 ghost use Rattle.chunk.specs.Found.{foundOf, chunkOf, endingAt};
+use pixel::consts::QOI_OP_DIFF;
+use pixel::consts::QOI_OP_LUMA;
+use pixel::consts::QOI_OP_RGB;
+use pixel::consts::QOI_OP_RGBA;
+use pixel::consts::QOI_OP_RUN;
+use pixel::consts::QOI_PADDING_SIZE;
 use pixel::packed;
 use pixel::types::Channels;
 
@@ -41,7 +47,7 @@ pub fn read(source: Channels, part: &[u8]) -> Found
         return Found::Cut;
     }
     let byte = part[0];
-    if byte == 0xff {
+    if byte == QOI_OP_RGBA {
         match source {
             Channels::Rgba => {
                 if part.len() < 5 {
@@ -57,19 +63,19 @@ pub fn read(source: Channels, part: &[u8]) -> Found
             }
         }
     }
-    if byte == 0xfe {
+    if byte == QOI_OP_RGB {
         if part.len() < 4 {
             return Found::Cut;
         }
         return Found::Colour(Colour::Rgb(part[1], part[2], part[3]));
     }
-    if byte < 0x40 {
+    if byte < QOI_OP_DIFF {
         return Found::Index(byte);
     }
-    if byte < 0x80 {
+    if byte < QOI_OP_LUMA {
         return Found::Colour(Colour::Diff(byte / 16 % 4, byte / 4 % 4, byte % 4));
     }
-    if byte < 0xc0 {
+    if byte < QOI_OP_RUN {
         if part.len() < 2 {
             return Found::Cut;
         }
@@ -90,7 +96,7 @@ pub enum Ending {
 pub fn read_end(part: &[u8]) -> Ending
     ensures { λ r. ⌜ r ≡ endingAt (now (part .entry)) ⌝ }
 {
-    if part.len() < 8 {
+    if part.len() < QOI_PADDING_SIZE {
         return Ending::Cut;
     }
     if is_marker(
