@@ -50,7 +50,7 @@ pub fn decode_to_buf(out: &mut [u8], message: &[u8]) -> HeaderRead
     }
 }
 
-// What follows a decoded message; after a refusal the empty part at its end, and so for any answer that no decode of it gave.
+// What follows the bytes that an answer says were used; the empty part at the message's end after a refusal, and where it says more than there are.
 pub fn rest(message: &[u8], decoded: Decoded) -> &[u8]
     ensures { λ r. ⌜ now r ≡ restOf (now (message .entry)) (answerOf decoded) ⌝ }
 {
