@@ -1,13 +1,12 @@
--- The laws of the header: its bytes read back, how many they are and how large, and what an accepted header is like.
+-- The laws of the header: its bytes read back, how many they are, and what an accepted header is like.
 use mathlib.Core.Path.{_≡_, refl}
 use mathlib.Core.Bool.{Bool, true, false, cond, _&&_}
-use mathlib.Core.List.{List, [], _∷_, _++_}
-use Prim.Native.Nat.{ℕ, zero, suc, _*_, _/_, _%_, _^_, _≤_, _<_}
+use mathlib.Core.List.{List, _++_}
+use Prim.Native.Nat.{ℕ, _*_, _/_, _%_, _^_, _≤_, _<_}
 use native.Mathlib.Nat.{le-of-lt, lt-of-le-of-lt, mul-le-mul-left, mul-lt-mul-of-pos-right, mod-eq-of-lt, div-div-eq-div-mul}
 use native.Mathlib.Omega.{arith}
 use lib.Dec.{T, ltb, leb, eqb, leb→le, lit<}
 use lib.ListN.{length, getD}
-use borrow.Author.Needs.{needs}
 use borrow.Author.Tests.{le-ltb, ltb-false}
 use Rattle.pixel.specs.Types.{channelsNumber, colorSpaceNumber, channelsFrom, colorSpaceFrom}
 use Rattle.pixel.specs.declared.error.Error.{Error}
@@ -69,32 +68,6 @@ header-read-back h rest narrow low fit =
 pub header-length : (h : Header) → length (headerBytes h) ≡ 14
 unfolding headerBytes
 header-length h = refl
-
--- each number of a list is below 256
-abbrev Bytes : List ℕ → Type 0
-Bytes [] = Unit {0}
-Bytes (x ∷ xs) = (x < 256) × Bytes xs
-
-byte-at : (xs : List ℕ) → Bytes xs → (i : ℕ) → getD xs i 0 < 256
-byte-at [] below i = lit< tt
-byte-at (x ∷ xs) below zero = below .0
-byte-at (x ∷ xs) below (suc i) = byte-at xs (below .1) i
-
-channels-byte : (c : Channels) → channelsNumber c < 256
-channels-byte Rgb = lit< tt
-channels-byte Rgba = lit< tt
-
-color-space-byte : (s : ColorSpace) → colorSpaceNumber s < 256
-color-space-byte Srgb = lit< tt
-color-space-byte Linear = lit< tt
-
--- every byte of the header is below 256
-pub header-byte : (h : Header) (i : ℕ) → i < 14 → getD (headerBytes h) i 0 < 256
-unfolding headerBytes
-header-byte h i inside =
-    let channels = channels-byte (h .channels) in
-    let colorspace = color-space-byte (h .colorspace) in
-    byte-at (headerBytes h) (search needs) i
 
 -- what an accepted header is like: 1 to 400,000,000 pixels, fourteen bytes or more, and 32-bit dimensions if it was read from bytes
 pub record Accepted (bytes : List ℕ) (h : Header) : Type 0 where

@@ -1,4 +1,4 @@
--- The number code's laws: a written number reads back, how long it is, what its bytes are, and what a number that is read is below.
+-- The number code's laws: a written number reads back, how long it is, and what a number that is read is below.
 use Prim.Native.Nat.{ℕ, zero, suc, _+_, _-_, _*_, _/_, _%_, _^_, _≤_, _<_}
 use mathlib.Core.Path.{_≡_, refl, sym, ap, subst, _∙_}
 use mathlib.Core.Bool.{Bool, true, false, cond}
@@ -123,28 +123,6 @@ rest-after-written n rest = drop-append-seam (sevenBits n) rest
 -- each element of a list is a byte
 abbrev pub Bytes : List ℕ → Type 0
 Bytes bytes = (i : ℕ) → i < length bytes → getD bytes i 0 < 256
-
--- the bytes of a written number, of which `more` may follow the first, are below 256
-bytes-cons : (byte : ℕ) (rest : List ℕ) → byte < 256 → Bytes rest → Bytes (byte ∷ rest)
-bytes-cons byte rest first others zero h = first
-bytes-cons byte rest first others (suc i) h = others i (omega arith)
-
-bytes-none : Bytes []
-bytes-none i h = absurd (omega arith)
-
-bytes-of : (more n : ℕ) → n < 128 ^ suc more → Bytes (sevenBitsOf more n)
-unfolding sevenBitsOf
-bytes-of zero n fits = bytes-cons n [] (omega arith) bytes-none
-bytes-of (suc more) n fits =
-    by-size n (λ low. rw (last-byte (suc more) n low) (bytes-cons n [] (omega arith) bytes-none))
-    (λ high.
-    rw (next-byte more n high)
-    (bytes-cons (128 + n % 128) (sevenBitsOf more (n / 128)) (omega arith) (bytes-of more (n / 128) (omega (arith, pow-suc 128 (suc more))))))
-
--- each byte of a written number is below 256
-pub written-bytes : (n : ℕ) → n < 2 ^ 64 → Bytes (sevenBits n)
-unfolding sevenBits
-written-bytes n fits = bytes-of 9 n (omega arith)
 
 -- what is read lies below a limit, and took at least one and at most so many of the bytes
 abbrev pub Within : ℕ → ℕ → List ℕ → NumberRead → Type 0
