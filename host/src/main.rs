@@ -10,6 +10,7 @@ mod oracle;
 mod pictures;
 mod port;
 mod random;
+mod refusal;
 mod sha256;
 
 use std::path::PathBuf;

@@ -1,25 +1,10 @@
 // The Rust: what crate qoi 0.4.1 answers, in document 01's numbers. The bytes are what it leaves in the output that it is lent.
 use crate::answer::Answer;
+use crate::refusal::number_and_figures;
 use qoi::{Channels, ColorSpace, Decoder, Encoder, Error};
 
-/// The number and the figures that document 01's table of refusals gives.
 fn refused(error: &Error) -> Answer {
-    use Error::*;
-    let (number, figures) = match *error {
-        UnexpectedBufferEnd => (1, [0; 4]),
-        InvalidChannels { channels } => (2, [channels.into(), 0, 0, 0]),
-        InvalidColorSpace { colorspace } => (3, [colorspace.into(), 0, 0, 0]),
-        InvalidMagic { magic } => (4, [magic.into(), 0, 0, 0]),
-        InvalidImageDimensions { width, height } => (5, [width.into(), height.into(), 0, 0]),
-        InvalidImageLength {
-            size,
-            width,
-            height,
-        } => (6, [size as u64, width.into(), height.into(), 0]),
-        OutputBufferTooSmall { size, required } => (7, [size as u64, required as u64, 0, 0]),
-        InvalidPadding => (8, [0; 4]),
-        IoError(ref e) => panic!("no slice gives an i/o error: {e}"),
-    };
+    let (number, figures) = number_and_figures(error);
     Answer { number, figures }
 }
 

@@ -119,34 +119,25 @@ fn cut_short(list: &mut List) {
     }
 }
 
+fn plain_with(channels: u8, colorspace: u8) -> Vec<u8> {
+    Fields {
+        channels,
+        colorspace,
+        ..PLAIN
+    }
+    .bytes()
+}
+
 /// b: one fault alone.
 fn one_fault(list: &mut List) {
     for colorspace in COLOR_SPACES {
         for channels in [0, 1, 2, 5, 127, 255] {
-            read(
-                list,
-                'b',
-                &Fields {
-                    channels,
-                    colorspace,
-                    ..PLAIN
-                }
-                .bytes(),
-            );
+            read(list, 'b', &plain_with(channels, colorspace));
         }
     }
     for channels in CHANNELS {
         for colorspace in [2, 3, 128, 255] {
-            read(
-                list,
-                'b',
-                &Fields {
-                    channels,
-                    colorspace,
-                    ..PLAIN
-                }
-                .bytes(),
-            );
+            read(list, 'b', &plain_with(channels, colorspace));
         }
     }
     let mut magics = vec![[0x00; 4], [0xff; 4], *b"fioq", *b"QOIF"];

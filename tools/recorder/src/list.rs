@@ -1,4 +1,5 @@
 // The list: what crate qoi answered to an input, one case to a line, in pages that a reader can take one by one.
+use crate::refusal::number_and_figures;
 use std::collections::{BTreeMap, HashSet};
 
 /// No case crosses a multiple of this many bytes.
@@ -6,7 +7,7 @@ const PAGE: usize = 65_536;
 
 /// 0 and the accepted answer's figures, or the refusal's number and figures, zeros after them.
 pub struct Answer {
-    pub number: u8,
+    pub number: u64,
     pub figures: [u64; 4],
 }
 
@@ -14,32 +15,14 @@ pub fn accepted(figures: [u64; 4]) -> Answer {
     Answer { number: 0, figures }
 }
 
-/// The number and the figures that document 01's table of refusals gives.
-fn refused(error: &qoi::Error) -> Answer {
-    use qoi::Error::*;
-    let (number, figures) = match *error {
-        UnexpectedBufferEnd => (1, [0; 4]),
-        InvalidChannels { channels } => (2, [channels.into(), 0, 0, 0]),
-        InvalidColorSpace { colorspace } => (3, [colorspace.into(), 0, 0, 0]),
-        InvalidMagic { magic } => (4, [magic.into(), 0, 0, 0]),
-        InvalidImageDimensions { width, height } => (5, [width.into(), height.into(), 0, 0]),
-        InvalidImageLength {
-            size,
-            width,
-            height,
-        } => (6, [size as u64, width.into(), height.into(), 0]),
-        OutputBufferTooSmall { size, required } => (7, [size as u64, required as u64, 0, 0]),
-        InvalidPadding => (8, [0; 4]),
-        IoError(ref e) => panic!("no slice gives an i/o error: {e}"),
-    };
-    Answer { number, figures }
-}
-
 /// What the Rust answered, with the figures that its accepted answer has.
 pub fn answer<T>(result: qoi::Result<T>, figures: impl FnOnce(T) -> [u64; 4]) -> Answer {
     match result {
         Ok(value) => accepted(figures(value)),
-        Err(error) => refused(&error),
+        Err(error) => {
+            let (number, figures) = number_and_figures(&error);
+            Answer { number, figures }
+        }
     }
 }
 

@@ -4,6 +4,7 @@
 mod decode;
 mod header;
 mod list;
+mod refusal;
 
 use std::io::Write;
 
