@@ -1,6 +1,7 @@
 // One chunk of a message: what its first bytes say, and the pixel that a chunk of colour makes of the one before it.
 ghost use mathlib.Core.Path.{_≡_};
 ghost use mathlib.Core.List.{[], _∷_};
+ghost use Rattle.pixel.specs.Colour.{alpha as alphaOf, clearPixel, withAlpha};
 ghost use Rattle.pixel.specs.Packed.{unpacked};
 ghost use Rattle.pixel.specs.Types.{channelsNumber};
 ghost use Rattle.rules.specs.Chunk.{chunkAt, colourOf, sizeOf, shifted as shiftedBy};
@@ -47,6 +48,9 @@ pub fn read(source: Channels, part: &[u8]) -> Found
         return Found::Cut;
     }
     let byte = part[0];
+    if byte < QOI_OP_DIFF {
+        return Found::Index(byte);
+    }
     if byte == QOI_OP_RGBA {
         match source {
             Channels::Rgba => {
@@ -68,9 +72,6 @@ pub fn read(source: Channels, part: &[u8]) -> Found
             return Found::Cut;
         }
         return Found::Colour(Colour::Rgb(part[1], part[2], part[3]));
-    }
-    if byte < QOI_OP_DIFF {
-        return Found::Index(byte);
     }
     if byte < QOI_OP_LUMA {
         return Found::Colour(Colour::Diff(byte / 16 % 4, byte / 4 % 4, byte % 4));
@@ -146,13 +147,28 @@ fn is_marker(a: u8, b: u8, c: u8, d: u8, e: u8, f: u8, g: u8, h: u8) -> bool
     true
 }
 
-// The packed pixel that a chunk of colour makes of the previous one.
-pub fn recolour(previous: u32, colour: Colour) -> u32
-    ensures { λ r. ⌜ unpacked r ≡ colourOf [] (unpacked previous) (chunkOf colour) ⌝ }
+// The alpha that a chunk of colour leaves.
+pub fn alpha(previous: u8, colour: Colour) -> u8
+    ensures { λ a. ⌜ a ≡ alphaOf (colourOf [] (withAlpha clearPixel previous) (chunkOf colour)) ⌝ }
+{
+    match colour {
+        Colour::Diff(_, _, _) => previous,
+        Colour::Luma(_, _, _) => previous,
+        Colour::Rgb(_, _, _) => previous,
+        Colour::Rgba(_, _, _, a) => a,
+        Colour::Stuck => previous,
+    }
+}
+
+// The packed pixel that a chunk of colour makes of the previous one's colour and alpha, which is handed in apart: few chunks change it, and a
+// loop that takes it out of each pixel waits for it.
+pub fn recolour(previous: u32, alpha: u8, colour: Colour) -> u32
+    ensures { λ r. ⌜ unpacked r ≡ colourOf [] (withAlpha (unpacked previous) alpha) (chunkOf colour) ⌝ }
 {
     match colour {
         Colour::Diff(r, g, b) => shifted(
             previous,
+            alpha,
             pixel::wrapped_difference(r, 2),
             pixel::wrapped_difference(g, 2),
             pixel::wrapped_difference(b, 2),
@@ -161,14 +177,20 @@ pub fn recolour(previous: u32, colour: Colour) -> u32
             let green = pixel::wrapped_difference(g, 32);
             shifted(
                 previous,
+                alpha,
                 pixel::wrapped_sum(green, pixel::wrapped_difference(r, 8)),
                 green,
                 pixel::wrapped_sum(green, pixel::wrapped_difference(b, 8)),
             )
         }
-        Colour::Rgb(r, g, b) => packed::pack(r, g, b, packed::alpha(previous)),
+        Colour::Rgb(r, g, b) => packed::pack(r, g, b, alpha),
         Colour::Rgba(r, g, b, a) => packed::pack(r, g, b, a),
-        Colour::Stuck => previous,
+        Colour::Stuck => packed::pack(
+            packed::red(previous),
+            packed::green(previous),
+            packed::blue(previous),
+            alpha,
+        ),
     }
 }
 
@@ -185,14 +207,14 @@ pub fn size(colour: Colour) -> usize
     }
 }
 
-// A packed pixel with a difference added to each colour.
-fn shifted(p: u32, r: u8, g: u8, b: u8) -> u32
-    ensures { λ q. ⌜ unpacked q ≡ shiftedBy (unpacked p) r g b ⌝ }
+// A packed pixel with this alpha and a difference added to each colour.
+fn shifted(p: u32, a: u8, r: u8, g: u8, b: u8) -> u32
+    ensures { λ q. ⌜ unpacked q ≡ shiftedBy (withAlpha (unpacked p) a) r g b ⌝ }
 {
     packed::pack(
         pixel::wrapped_sum(packed::red(p), r),
         pixel::wrapped_sum(packed::green(p), g),
         pixel::wrapped_sum(packed::blue(p), b),
-        packed::alpha(p),
+        a,
     )
 }

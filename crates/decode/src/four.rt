@@ -39,6 +39,7 @@ fn decode_four(message: &[u8], header: Header, out: &mut [u8]) -> Decoded
     let source = header.channels;
     let mut slots = [0u32; 64];
     let mut current: u32 = 0xff00_0000;
+    let mut alpha: u8 = 255;
     let mut at: usize = 14;
     let mut pixel: usize = 0;
     while pixel < pixels {
@@ -49,6 +50,7 @@ fn decode_four(message: &[u8], header: Header, out: &mut [u8]) -> Decoded
             Found::Index(slot) => {
                 let i = slot as usize;
                 current = slots[i];
+                alpha = packed::alpha(current);
                 put_four(out, pixel * 4, current);
                 at += 1;
                 pixel += 1;
@@ -61,7 +63,8 @@ fn decode_four(message: &[u8], header: Header, out: &mut [u8]) -> Decoded
             }
             Found::Colour(colour) => {
                 at += chunk::size(colour);
-                current = chunk::recolour(current, colour);
+                current = chunk::recolour(current, alpha, colour);
+                alpha = chunk::alpha(alpha, colour);
                 let i = packed::slot(current);
                 slots[i] = current;
                 put_four(out, pixel * 4, current);

@@ -54,16 +54,13 @@ pub fn decode_to_buf(out: &mut [u8], message: &[u8]) -> HeaderRead
 pub fn rest(message: &[u8], decoded: Decoded) -> &[u8]
     ensures { λ r. ⌜ now r ≡ restOf (now (message .entry)) (answerOf decoded) ⌝ }
 {
+    let end = message.len();
     match decoded {
-        Decoded::Refused(_) => {
-            let end = message.len();
-            &message[end..]
-        }
+        Decoded::Refused(_) => &message[end..],
         Decoded::Done { size: _, used } => {
-            if used <= message.len() {
+            if used <= end {
                 &message[used..]
             } else {
-                let end = message.len();
                 &message[end..]
             }
         }

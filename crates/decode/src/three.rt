@@ -61,7 +61,7 @@ fn decode_three(message: &[u8], header: Header, out: &mut [u8]) -> Decoded
             }
             Found::Colour(colour) => {
                 at += chunk::size(colour);
-                current = packed::opaque(chunk::recolour(current, colour));
+                current = packed::opaque(chunk::recolour(current, packed::alpha(current), colour));
                 let i = packed::slot(current);
                 slots[i] = current;
                 put_three(out, pixel * 3, current);

@@ -40,8 +40,8 @@ below-alpha p = omega (arith, div-div-eq-div-mul p 256 256, div-div-eq-div-mul p
 -- two products of two channels each hold the sum of the slot formula
 pub two-products :
     (r g b a : ℕ) → r < 256 → g < 256
-    → ((r + b * 65536) * 0x3_0007 + (g + a * 65536) * 0x5_000b) / 65536 % 64 ≡ (3 * r + 5 * g + 7 * b + 11 * a) % 64
+    → ((r + b * 65536) * 0x3_0007_0000 + (g + a * 65536) * 0x5_000b_0000) / 0x1_0000_0000 % 64 ≡ (3 * r + 5 * g + 7 * b + 11 * a) % 64
 two-products r g b a hr hg =
     let sum = 3 * r + 5 * g + 7 * b + 11 * a in
-    let above : ((r + b * 65536) * 0x3_0007 + (g + a * 65536) * 0x5_000b) / 65536 ≡ sum + 64 * (1024 * (3 * b + 5 * a)) = omega arith in
+    let above : ((r + b * 65536) * 0x3_0007_0000 + (g + a * 65536) * 0x5_000b_0000) / 0x1_0000_0000 ≡ sum + 64 * (1024 * (3 * b + 5 * a)) = omega arith in
     ap (λ (n : ℕ). n % 64) above ∙ add-mul-mod-self-left sum 64 (1024 * (3 * b + 5 * a))

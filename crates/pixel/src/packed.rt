@@ -41,11 +41,11 @@ pub fn opaque(p: u32) -> u32
     p % 0x100_0000 + 0xff00_0000
 }
 
-// The slot of the colour: two products, each of two channels at once.
+// The slot of the colour: two products, each of two channels at once, in the upper half of 64 bits.
 pub fn slot(p: u32) -> usize
     ensures { λ s. ⌜ s ≡ slotOf (unpacked p) ⌝ }
 {
     let even = ((p % 256) as u64) + ((p / 0x1_0000 % 256) as u64) * 0x1_0000;
     let odd = ((p / 256 % 256) as u64) + ((p / 0x100_0000 % 256) as u64) * 0x1_0000;
-    ((even * 0x3_0007 + odd * 0x5_000b) / 0x1_0000 % 64) as usize
+    ((even * 0x3_0007_0000 + odd * 0x5_000b_0000) / 0x1_0000_0000 % 64) as usize
 }

@@ -14,7 +14,7 @@ use Rattle.header.specs.declared.Header.{Header}
 use Rattle.header.specs.Header.{headerBytes, headerFrom, afterColorSpace, afterChannels, headerOf}
 use Rattle.rules.specs.Chunk.{chunkFrom, chunkAt, colourOf, timesOf, sizeOf}
 use Rattle.rules.specs.Reading.{Reading, marker, sameBytes, repeated, closing, startPlace, pixelsBrought, pixelAfter, placeAfter, bytesOf, moveBy, move, reading, readingInto, withWanted, withHeader, wholeReading}
-use Rattle.rules.specs.Decode.{decoderStores, decoderKeeps, decoderReadsRgba, decoding, restOf}
+use Rattle.rules.specs.Decode.{decoderStores, decoderKeeps, decoderReadsRgba, decoding, writtenOver, restOf}
 use Rattle.rules.specs.Document.{documentReading, namesFilled, filledAfter, filledOn, chunkDue, filledFrom, filledHeader, indexesFilled}
 use Rattle.rules.specs.Encode.{fitsDiff, fitsLuma, diffBytes, lumaBytes, colourBytes, startPen, runEnded, slotHolds, differingBytes, pixelChunks, penAfter, chunksFrom, pixelFrom, pixelsFrom, streamOf, encodingInto, withSpace, withCount, withDimensions, encoding}
 use Rattle.rules.specs.Step.{State, wellFormed, Started, started, notStarted, startWanted, startHeader, starting, stepBy, step, Ran, going, ended, running}
@@ -30,8 +30,8 @@ pub data Case : Type 0 where
   encodesInto : ℕ → ℕ → ℕ → List ℕ → ℕ → List ℕ → Case
   -- width, height and channels, wanted, what follows the header: the answer's number and figures, the bytes written
   decodes : ℕ → ℕ → Channels → ℕ → List ℕ → List ℕ → List ℕ → Case
-  -- width, height and channels, wanted, room, what follows the header: the answer's number and figures
-  decodesInto : ℕ → ℕ → Channels → ℕ → ℕ → List ℕ → List ℕ → Case
+  -- width, height and channels, wanted, room, what follows the header: the answer's number and figures, and the room at exit, which held ee
+  decodesInto : ℕ → ℕ → Channels → ℕ → ℕ → List ℕ → List ℕ → List ℕ → Case
   -- width, height and channels, wanted, what follows the header: the document's number and figures, the bytes written
   documents : ℕ → ℕ → Channels → ℕ → List ℕ → List ℕ → List ℕ → Case
   -- a message, wanted: the number and figures of a start
@@ -116,8 +116,9 @@ holds (encodes width height channels picture chunks) =
     let m = message width height channels chunks in
     sameBytes (encoding picture width height 0 1000000 .bytes) m
     && readBoth m (channelsNumber channels) (length picture) picture picture
-holds (decodesInto width height channels wanted room body figures) =
-    sameBytes (answerFigures (decoding (headerBytes (headerWith width height channels) ++ body) wanted room .answer)) figures
+holds (decodesInto width height channels wanted room body figures out) =
+    let r = decoding (headerBytes (headerWith width height channels) ++ body) wanted room in
+    sameBytes (answerFigures (r .answer)) figures && sameBytes (writtenOver (r .bytes) (replicate room 0xee)) out
 holds (documents width height channels wanted body figures bytes) =
     let r = documentReading (headerBytes (headerWith width height channels) ++ body) wanted (width * height * wanted) in
     sameBytes (answerFigures (r .answer)) figures && sameBytes (r .bytes) bytes
@@ -280,9 +281,11 @@ orders =
     ∷ decodes 1 1 Rgb 3 (0xfe ∷ 1 ∷ 2 ∷ []) (1 ∷ 0 ∷ 0 ∷ 0 ∷ 0 ∷ []) []
     ∷ decodes 1 1 Rgba 4 (0xff ∷ 1 ∷ 2 ∷ 3 ∷ []) (1 ∷ 0 ∷ 0 ∷ 0 ∷ 0 ∷ []) []
     ∷ decodes 2 1 Rgb 3 (0xc0 ∷ 0xfd ∷ marker) (0 ∷ 6 ∷ 24 ∷ 0 ∷ 0 ∷ []) (replicate 6 0)
-    ∷ decodesInto 1 1 Rgb 5 0 [] (2 ∷ 5 ∷ 0 ∷ 0 ∷ 0 ∷ [])
-    ∷ decodesInto 1 1 Rgb 300 0 [] (2 ∷ 255 ∷ 0 ∷ 0 ∷ 0 ∷ [])
-    ∷ decodesInto 1 1 Rgb 4 3 [] (7 ∷ 3 ∷ 4 ∷ 0 ∷ 0 ∷ [])
+    ∷ decodesInto 1 1 Rgb 5 0 [] (2 ∷ 5 ∷ 0 ∷ 0 ∷ 0 ∷ []) []
+    ∷ decodesInto 1 1 Rgb 300 0 [] (2 ∷ 255 ∷ 0 ∷ 0 ∷ 0 ∷ []) []
+    ∷ decodesInto 1 1 Rgb 4 3 [] (7 ∷ 3 ∷ 4 ∷ 0 ∷ 0 ∷ []) (replicate 3 0xee)
+    ∷ decodesInto 1 1 Rgb 3 5 (0xc0 ∷ marker) (0 ∷ 3 ∷ 23 ∷ 0 ∷ 0 ∷ []) (0 ∷ 0 ∷ 0 ∷ 0xee ∷ 0xee ∷ [])
+    ∷ decodesInto 2 1 Rgb 3 6 (0xc0 ∷ []) (1 ∷ 0 ∷ 0 ∷ 0 ∷ 0 ∷ []) (0 ∷ 0 ∷ 0 ∷ 0xee ∷ 0xee ∷ 0xee ∷ [])
     ∷ documents 1 1 Rgb 4 (0xff ∷ 1 ∷ 2 ∷ 3 ∷ 4 ∷ marker) (0 ∷ 4 ∷ 27 ∷ 0 ∷ 0 ∷ []) (1 ∷ 2 ∷ 3 ∷ 4 ∷ [])
     ∷ encodesInto 0 1 2 (1 ∷ []) 0 (5 ∷ 0 ∷ 1 ∷ 0 ∷ 0 ∷ [])
     ∷ encodesInto 20000 20000 2 [] 0 (2 ∷ 0 ∷ 0 ∷ 0 ∷ 0 ∷ [])

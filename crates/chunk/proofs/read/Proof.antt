@@ -23,13 +23,18 @@ returns c =
 shared-slice-read-byte : tie.Need-shared-slice-read-byte
 shared-slice-read-byte c = search needs
 
+returns-2 : tie.Need-returns-2
+returns-2 c =
+    let part = c .before .before .before .args .part .now in
+    sym (index-row (reads-rgba (c .before .before .before .args .source)) part (omega arith) (omega arith))
+
 enum-told : tie.Need-enum-told
 enum-told c = search needs
 
-returns-2 : tie.Need-returns-2
+returns-3 : tie.Need-returns-3
 unfolding decoderReadsRgba
-returns-2 c =
-    let part = c .before .before .before .before .before .before .args .part .now in
+returns-3 c =
+    let part = c .before .before .before .before .before .before .before .args .part .now in
     rw (c .before .enum-told .given .1) (sym (rgba-cut part (omega arith) (omega arith) (omega arith)))
 
 shared-slice-read-t12 : tie.Need-shared-slice-read-t12
@@ -44,31 +49,31 @@ shared-slice-read-t16 c = search needs
 shared-slice-read-t18 : tie.Need-shared-slice-read-t18
 shared-slice-read-t18 c = search needs
 
-returns-3 : tie.Need-returns-3
+returns-4 : tie.Need-returns-4
 unfolding decoderReadsRgba
-returns-3 c =
-    let part = c .before .before .before .before .before .before .before .before .before .before .args .part .now in
+returns-4 c =
+    let part = c .before .before .before .before .before .before .before .before .before .before .before .args .part .now in
     rw (c .before .before .before .before .before .enum-told .given .1) (sym (rgba-row part (omega arith) (omega arith)))
 
 enum-told-2 : tie.Need-enum-told-2
 enum-told-2 c = search needs
 
-returns-4 : tie.Need-returns-4
-unfolding decoderReadsRgba
-returns-4 c =
-    let part = c .before .before .before .before .before .before .args .part .now in
-    rw (c .before .enum-told2 .given .1) (sym (stuck-cut part (omega arith) (omega arith) (omega arith)))
-
 returns-5 : tie.Need-returns-5
 unfolding decoderReadsRgba
 returns-5 c =
-    let part = c .before .before .before .before .before .before .args .part .now in
-    rw (c .before .enum-told2 .given .1) (sym (stuck-row part (omega arith) (omega arith)))
+    let part = c .before .before .before .before .before .before .before .args .part .now in
+    rw (c .before .enum-told2 .given .1) (sym (stuck-cut part (omega arith) (omega arith) (omega arith)))
 
 returns-6 : tie.Need-returns-6
+unfolding decoderReadsRgba
 returns-6 c =
-    let part = c .before .before .before .before .before .args .part .now in
-    sym (rgb-cut (reads-rgba (c .before .before .before .before .before .args .source)) part (omega arith) (omega arith) (omega arith))
+    let part = c .before .before .before .before .before .before .before .args .part .now in
+    rw (c .before .enum-told2 .given .1) (sym (stuck-row part (omega arith) (omega arith)))
+
+returns-7 : tie.Need-returns-7
+returns-7 c =
+    let part = c .before .before .before .before .before .before .args .part .now in
+    sym (rgb-cut (reads-rgba (c .before .before .before .before .before .before .args .source)) part (omega arith) (omega arith) (omega arith))
 
 shared-slice-read-t26 : tie.Need-shared-slice-read-t26
 shared-slice-read-t26 c = search needs
@@ -79,15 +84,10 @@ shared-slice-read-t28 c = search needs
 shared-slice-read-t30 : tie.Need-shared-slice-read-t30
 shared-slice-read-t30 c = search needs
 
-returns-7 : tie.Need-returns-7
-returns-7 c =
-    let part = c .before .before .before .before .before .before .before .before .args .part .now in
-    sym (rgb-row (reads-rgba (c .before .before .before .before .before .before .before .before .args .source)) part (omega arith) (omega arith))
-
 returns-8 : tie.Need-returns-8
 returns-8 c =
-    let part = c .before .before .before .before .before .args .part .now in
-    sym (index-row (reads-rgba (c .before .before .before .before .before .args .source)) part (omega arith) (omega arith))
+    let part = c .before .before .before .before .before .before .before .before .before .args .part .now in
+    sym (rgb-row (reads-rgba (c .before .before .before .before .before .before .before .before .before .args .source)) part (omega arith) (omega arith))
 
 returns-9 : tie.Need-returns-9
 returns-9 c =
@@ -121,21 +121,21 @@ read-spec =
     (tie.spec
     returns
     shared-slice-read-byte
-    enum-told
     returns-2
+    enum-told
+    returns-3
     shared-slice-read-t12
     shared-slice-read-t14
     shared-slice-read-t16
     shared-slice-read-t18
-    returns-3
-    enum-told-2
     returns-4
+    enum-told-2
     returns-5
     returns-6
+    returns-7
     shared-slice-read-t26
     shared-slice-read-t28
     shared-slice-read-t30
-    returns-7
     returns-8
     returns-9
     returns-10

@@ -46,9 +46,6 @@ shifted-requires-2 c κs = search needs
 enum-known-colour-3 : tie.Need-enum-known-colour-3
 enum-known-colour-3 c = search needs
 
-alpha-requires : tie.Need-alpha-requires
-alpha-requires c κs = search needs
-
 pack-requires : tie.Need-pack-requires
 pack-requires c κs = search needs
 
@@ -61,6 +58,18 @@ pack-requires-2 c κs = search needs
 enum-told : tie.Need-enum-told
 enum-told c = search needs
 
+red-requires : tie.Need-red-requires
+red-requires c κs = search needs
+
+green-requires : tie.Need-green-requires
+green-requires c κs = search needs
+
+blue-requires : tie.Need-blue-requires
+blue-requires c κs = search needs
+
+pack-requires-3 : tie.Need-pack-requires-3
+pack-requires-3 c κs = search needs
+
 returns : tie.Need-returns
 unfolding colourOf
 returns c = simp (c .before .before .before .before .before .colour .given .1, c .shifted .ensures, c .before .wrapped-difference3 .ensures, c .before .before .wrapped-difference2 .ensures, c .before .before .before .wrapped-difference .ensures)
@@ -71,15 +80,17 @@ returns-2 c = simp (c .before .before .before .before .before .before .before .c
 
 returns-3 : tie.Need-returns-3
 unfolding colourOf unpacked
-returns-3 c = rw (c .before .before .before .colour3 .given .1) (c .pack .ensures ∙ simp (c .before .alpha .ensures))
+returns-3 c = rw (c .before .before .colour3 .given .1) (c .pack .ensures)
 
 returns-4 : tie.Need-returns-4
 unfolding colourOf
 returns-4 c = rw (c .before .before .colour4 .given .1) (c .pack2 .ensures)
 
 returns-5 : tie.Need-returns-5
-unfolding colourOf
-returns-5 c = simp (c .enum-told .given .1)
+unfolding colourOf unpacked
+returns-5 c =
+    rw (c .before .before .before .before .enum-told .given .1)
+    (c .pack3 .ensures ∙ simp (c .before .blue .ensures, c .before .before .green .ensures, c .before .before .before .red .ensures))
 
 pub recolour-spec : {M : Type 1} → statement M
 recolour-spec =
@@ -98,11 +109,14 @@ recolour-spec =
     wrapped-sum-requires-2
     shifted-requires-2
     enum-known-colour-3
-    alpha-requires
     pack-requires
     enum-known-colour-4
     pack-requires-2
     enum-told
+    red-requires
+    green-requires
+    blue-requires
+    pack-requires-3
     returns
     returns-2
     returns-3

@@ -24,9 +24,6 @@ blue-requires c κs = search needs
 wrapped-sum-requires-3 : tie.Need-wrapped-sum-requires-3
 wrapped-sum-requires-3 c κs = search needs
 
-alpha-requires : tie.Need-alpha-requires
-alpha-requires c κs = search needs
-
 pack-requires : tie.Need-pack-requires
 pack-requires c κs = search needs
 
@@ -34,7 +31,7 @@ returns : tie.Need-returns
 unfolding unpacked
 returns c =
     c .pack .ensures
-    ∙ simp (c .before .alpha .ensures, c .before .before .wrapped-sum3 .ensures, c .before .before .before .blue .ensures, c .before .before .before .before .wrapped-sum2 .ensures, c .before .before .before .before .before .green .ensures, c .before .before .before .before .before .before .wrapped-sum .ensures, c .before .before .before .before .before .before .before .red .ensures)
+    ∙ simp (c .before .wrapped-sum3 .ensures, c .before .before .blue .ensures, c .before .before .before .wrapped-sum2 .ensures, c .before .before .before .before .green .ensures, c .before .before .before .before .before .wrapped-sum .ensures, c .before .before .before .before .before .before .red .ensures)
 
 pub shifted-spec : {M : Type 1} → statement M
 shifted-spec =
@@ -46,6 +43,5 @@ shifted-spec =
     wrapped-sum-requires-2
     blue-requires
     wrapped-sum-requires-3
-    alpha-requires
     pack-requires
     returns)

@@ -1,6 +1,6 @@
 -- `decode::four::decode_four` meets its contract: at the loop's head what is written, followed by the reading from there, is the whole reading.
 -- Assumes nothing.
-use mathlib.Core.Path.{refl, sym, _∙_, ap}
+use mathlib.Core.Path.{_≡_, refl, sym, _∙_, ap}
 use Prim.Native.Nat.{ℕ, _-_, _*_}
 use native.Mathlib.Omega.{arith}
 use lib.ListN.{List·getD-map}
@@ -11,16 +11,16 @@ use Rattle.rules.specs.Reading.{closing}
 use Rattle.decode.specs.Inner.{fourBytes}
 use Rattle.header.proofs.Laws.{pixels-small}
 use Rattle.decode.proofs.Loop.{Head, begun, ends-cut, ends-closing, finds, index-within, run-some, colour-within, after-index, after-run, after-colour, four-bytes, slot-below}
-use Rattle.decode.proofs.Slots.{slotsOf, slots-set}
+use Rattle.decode.proofs.Slots.{slotsOf, slots-set, alphaIn, recoloured, alpha-kept}
 use Rattle.decode.proofs.four.decode_four.Statement.{statement}
 use Rattle.decode.proofs.four.decode_four.Tie as tie
 
 abbrev Inv-loop : tie.InvT-loop
-Inv-loop message header out₀ pixels source slots₀ current₀ at₀ pixel₀ out slots current at pixel =
-    Head header 4 message out₀ pixels source out (slotsOf slots) (unpacked current) at pixel
+Inv-loop message header out₀ pixels source slots₀ current₀ alpha₀ at₀ pixel₀ out slots current alpha at pixel =
+    Head header 4 message out₀ pixels source out (slotsOf slots) (unpacked current) at pixel × (alpha ≡ alphaIn current)
 
 abbrev μ-loop : tie.MeasureT-loop
-μ-loop message header out₀ pixels source slots₀ current₀ at₀ pixel₀ out slots current at pixel = pixels - pixel
+μ-loop message header out₀ pixels source slots₀ current₀ alpha₀ at₀ pixel₀ out slots current alpha at pixel = pixels - pixel
 
 n-pixels-requires : tie.Need-n-pixels-requires Inv-loop μ-loop
 n-pixels-requires c κs = search needs
@@ -28,16 +28,18 @@ n-pixels-requires c κs = search needs
 loop-holds : tie.Need-loop-holds Inv-loop μ-loop
 unfolding decoderKeeps unpacked
 loop-holds c =
-    let a = c .before .before .before .args in
-    record {
-      counted = c .n-pixels .ensures;
-      sourced = refl;
-      few = omega arith;
-      room = c .before .before .before .pre .1;
-      small = pixels-small (a .header) (c .before .before .before .pre .0 .fit);
-      kept = refl;
-      going = begun (a .header) 4 (a .message .now) (a .out .now) (c .before .before .before .pre .0 .whole);
-    }
+    let a = c .before .before .before .args in (
+      record {
+        counted = c .n-pixels .ensures;
+        sourced = refl;
+        few = omega arith;
+        room = c .before .before .before .pre .1;
+        small = pixels-small (a .header) (c .before .before .before .pre .0 .fit);
+        kept = refl;
+        going = begun (a .header) 4 (a .message .now) (a .out .now) (c .before .before .before .pre .0 .whole);
+      },
+      refl,
+    )
 
 sub-read : tie.Need-sub-read Inv-loop μ-loop
 sub-read c = search needs
@@ -60,8 +62,8 @@ same-length c = search needs
 returns : tie.Need-returns Inv-loop μ-loop
 returns c =
     let l = c .before .before .before .before .before .loop in
-    ends-cut _ _ _ _ _ _ _ _ _ (l .inv .going) (omega arith) (l .inv .room)
-    (finds _ _ _ _ _ _ _ _ _ _ _ (l .inv) _ _ (c .before .before .read .ensures) (c .enum-told .given .1))
+    ends-cut _ _ _ _ _ _ _ _ _ (l .inv .0 .going) (omega arith) (l .inv .0 .room)
+    (finds _ _ _ _ _ _ _ _ _ _ _ (l .inv .0) _ _ (c .before .before .read .ensures) (c .enum-told .given .1))
 
 enum-known-slot : tie.Need-enum-known-slot Inv-loop μ-loop
 enum-known-slot c = search needs
@@ -75,7 +77,10 @@ mul-current c = search needs
 array-read-current : tie.Need-array-read-current Inv-loop μ-loop
 array-read-current c =
     let l = c .before .before .before .before .before .before .loop in
-    index-within _ _ _ _ _ _ _ _ _ _ _ (l .inv) _ (finds _ _ _ _ _ _ _ _ _ _ _ (l .inv) _ _ (c .before .before .before .read .ensures) (c .before .slot .given .1))
+    index-within _ _ _ _ _ _ _ _ _ _ _ (l .inv .0) _ (finds _ _ _ _ _ _ _ _ _ _ _ (l .inv .0) _ _ (c .before .before .before .read .ensures) (c .before .slot .given .1))
+
+alpha-requires : tie.Need-alpha-requires Inv-loop μ-loop
+alpha-requires c κs = search needs
 
 mul-put-four : tie.Need-mul-put-four Inv-loop μ-loop
 mul-put-four c = search needs
@@ -95,10 +100,12 @@ loop-less c = search needs
 loop-again : tie.Need-loop-again Inv-loop μ-loop
 unfolding decoderKeeps
 loop-again c =
-    let l = c .before .before .before .before .before .before .before .before .before .before .loop in
-    after-index _ _ _ _ _ _ _ _ _ _ _ (l .inv) (c .before .before .before .before .before .before .before .before .before .loop-test .taken) fourBytes four-bytes _
-    (finds _ _ _ _ _ _ _ _ _ _ _ (l .inv) _ _ (c .before .before .before .before .before .before .before .read .ensures) (c .before .before .before .before .before .slot .given .1)) (unpacked 0) _
-    (sym (List·getD-map unpacked (l .slots) (c .before .before .before .before .before .slot .given .0 .0) 0)) _ (c .before .before .put-four .ensures)
+    let l = c .before .before .before .before .before .before .before .before .before .before .before .loop in (
+      after-index _ _ _ _ _ _ _ _ _ _ _ (l .inv .0) (c .before .before .before .before .before .before .before .before .before .before .loop-test .taken) fourBytes four-bytes _
+          (finds _ _ _ _ _ _ _ _ _ _ _ (l .inv .0) _ _ (c .before .before .before .before .before .before .before .before .read .ensures) (c .before .before .before .before .before .before .slot .given .1)) (unpacked 0) _
+          (sym (List·getD-map unpacked (l .slots) (c .before .before .before .before .before .before .slot .given .0 .0) 0)) _ (c .before .before .put-four .ensures),
+      c .before .before .before .before .alpha .ensures,
+    )
 
 enum-known-times : tie.Need-enum-known-times Inv-loop μ-loop
 enum-known-times c = search needs
@@ -128,13 +135,15 @@ loop-less-2 : tie.Need-loop-less-2 Inv-loop μ-loop
 loop-less-2 c =
     let l = c .before .before .before .before .before .before .before .before .before .before .before .loop in
     omega
-    (arith, c .before .before .before .before .least .ensures, run-some _ _ _ _ _ _ _ _ _ _ _ (l .inv) _ (finds _ _ _ _ _ _ _ _ _ _ _ (l .inv) _ _ (c .before .before .before .before .before .before .before .before .read .ensures) (c .before .before .before .before .before .before .times .given .1)))
+    (arith, c .before .before .before .before .least .ensures, run-some _ _ _ _ _ _ _ _ _ _ _ (l .inv .0) _ (finds _ _ _ _ _ _ _ _ _ _ _ (l .inv .0) _ _ (c .before .before .before .before .before .before .before .before .read .ensures) (c .before .before .before .before .before .before .times .given .1)))
 
 loop-again-2 : tie.Need-loop-again-2 Inv-loop μ-loop
 loop-again-2 c =
-    let l = c .before .before .before .before .before .before .before .before .before .before .before .loop in
-    after-run _ _ _ _ _ _ _ _ _ _ _ (l .inv) (c .before .before .before .before .before .before .before .before .before .before .loop-test .taken) fourBytes four-bytes _ _
-    (finds _ _ _ _ _ _ _ _ _ _ _ (l .inv) _ _ (c .before .before .before .before .before .before .before .before .read .ensures) (c .before .before .before .before .before .before .times .given .1)) (c .before .before .before .before .least .ensures) _ (c .before .before .fill-four .ensures)
+    let l = c .before .before .before .before .before .before .before .before .before .before .before .loop in (
+      after-run _ _ _ _ _ _ _ _ _ _ _ (l .inv .0) (c .before .before .before .before .before .before .before .before .before .before .loop-test .taken) fourBytes four-bytes _ _
+          (finds _ _ _ _ _ _ _ _ _ _ _ (l .inv .0) _ _ (c .before .before .before .before .before .before .before .before .read .ensures) (c .before .before .before .before .before .before .times .given .1)) (c .before .before .before .before .least .ensures) _ (c .before .before .fill-four .ensures),
+      l .inv .1,
+    )
 
 enum-known-colour : tie.Need-enum-known-colour Inv-loop μ-loop
 enum-known-colour c = search needs
@@ -145,17 +154,20 @@ size-requires c κs = search needs
 add-at-3 : tie.Need-add-at-3 Inv-loop μ-loop
 add-at-3 c =
     let l = c .before .before .before .before .before .before .before .loop in
-    let within = colour-within _ _ _ _ _ _ _ _ _ _ _ (l .inv) (c .before .before .colour .given .0 .0) (finds _ _ _ _ _ _ _ _ _ _ _ (l .inv) _ _ (c .before .before .before .before .read .ensures) (c .before .before .colour .given .1)) in
+    let within = colour-within _ _ _ _ _ _ _ _ _ _ _ (l .inv .0) (c .before .before .colour .given .0 .0) (finds _ _ _ _ _ _ _ _ _ _ _ (l .inv .0) _ _ (c .before .before .before .before .read .ensures) (c .before .before .colour .given .1)) in
     record { fits = omega (arith, c .size .ensures, within) }
 
 recolour-requires : tie.Need-recolour-requires Inv-loop μ-loop
 recolour-requires c κs = search needs
 
+alpha-requires-2 : tie.Need-alpha-requires-2 Inv-loop μ-loop
+alpha-requires-2 c κs = search needs
+
 slot-requires : tie.Need-slot-requires Inv-loop μ-loop
 slot-requires c κs = search needs
 
 mul-slots : tie.Need-mul-slots Inv-loop μ-loop
-mul-slots c = record { fits = omega (arith, c .slot2 .ensures, slot-below (unpacked (c .before .recolour .result))) }
+mul-slots c = record { fits = omega (arith, c .slot2 .ensures, slot-below (unpacked (c .before .before .recolour .result))) }
 
 array-write-slots : tie.Need-array-write-slots Inv-loop μ-loop
 array-write-slots c = rw (c .slot2 .ensures) (slot-below _)
@@ -175,10 +187,13 @@ loop-less-3 c = search needs
 loop-again-3 : tie.Need-loop-again-3 Inv-loop μ-loop
 unfolding decoderKeeps
 loop-again-3 c =
-    let l = c .before .before .before .before .before .before .before .before .before .before .before .before .before .loop in
-    rw (slots-set, c .before .before .before .before .before .before .size .ensures, c .before .before .before .before .slot2 .ensures)
-    (after-colour _ _ _ _ _ _ _ _ _ _ _ (l .inv) (c .before .before .before .before .before .before .before .before .before .before .before .before .loop-test .taken) fourBytes four-bytes (c .before .before .before .before .before .before .before .before .colour .given .0 .0)
-    (finds _ _ _ _ _ _ _ _ _ _ _ (l .inv) _ _ (c .before .before .before .before .before .before .before .before .before .before .read .ensures) (c .before .before .before .before .before .before .before .before .colour .given .1)) _ (c .before .before .before .before .before .recolour .ensures) _ (c .before .before .put-four2 .ensures))
+    let l = c .before .before .before .before .before .before .before .before .before .before .before .before .before .before .loop in
+    let colour = c .before .before .before .before .before .before .before .before .before .colour .given .0 .0 in (
+      rw (slots-set, c .before .before .before .before .before .before .before .size .ensures, c .before .before .before .before .slot2 .ensures)
+          (after-colour _ _ _ _ _ _ _ _ _ _ _ (l .inv .0) (c .before .before .before .before .before .before .before .before .before .before .before .before .before .loop-test .taken) fourBytes four-bytes colour
+          (finds _ _ _ _ _ _ _ _ _ _ _ (l .inv .0) _ _ (c .before .before .before .before .before .before .before .before .before .before .before .read .ensures) (c .before .before .before .before .before .before .before .before .before .colour .given .1)) _ (recoloured _ _ _ colour (l .inv .1) (c .before .before .before .before .before .before .recolour .ensures)) _ (c .before .before .put-four2 .ensures)),
+      alpha-kept _ _ _ _ colour (c .before .before .before .before .before .before .recolour .ensures) (c .before .before .before .before .before .alpha2 .ensures),
+    )
 
 n-pixels-requires-2 : tie.Need-n-pixels-requires-2 Inv-loop μ-loop
 n-pixels-requires-2 c κs = search needs
@@ -195,7 +210,7 @@ same-length-2 c = search needs
 returns-2 : tie.Need-returns-2 Inv-loop μ-loop
 returns-2 c =
     let l = c .before .before .before .loop in
-    let end = ends-closing _ _ _ _ _ _ _ _ _ (l .inv .going) (omega (arith, l .inv .counted)) (l .inv .room) in
+    let end = ends-closing _ _ _ _ _ _ _ _ _ (l .inv .0 .going) (omega (arith, l .inv .0 .counted)) (l .inv .0 .room) in
     (c .close .ensures ∙ ap (λ (n : ℕ). closing (n * 4) (c .before .before .before .before .before .before .before .args .message .now) (l .at)) (c .before .n-pixels2 .ensures) ∙ end .0, end .1)
 
 pub decode-four-spec : {M : Type 1} → statement M
@@ -217,6 +232,7 @@ decode-four-spec =
     cast-i
     mul-current
     array-read-current
+    alpha-requires
     mul-put-four
     put-four-requires
     add-at
@@ -237,6 +253,7 @@ decode-four-spec =
     size-requires
     add-at-3
     recolour-requires
+    alpha-requires-2
     slot-requires
     mul-slots
     array-write-slots

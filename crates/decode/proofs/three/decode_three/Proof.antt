@@ -13,7 +13,7 @@ use Rattle.rules.specs.Reading.{closing}
 use Rattle.decode.specs.Inner.{threeBytes}
 use Rattle.header.proofs.Laws.{pixels-small}
 use Rattle.decode.proofs.Loop.{Head, begun, ends-cut, ends-closing, finds, index-within, run-some, colour-within, after-index, after-run, after-colour, three-bytes, slot-below}
-use Rattle.decode.proofs.Slots.{slotsOf, slots-set}
+use Rattle.decode.proofs.Slots.{slotsOf, slots-set, recoloured}
 use Rattle.decode.proofs.three.decode_three.Statement.{statement}
 use Rattle.decode.proofs.three.decode_three.Tie as tie
 
@@ -153,6 +153,9 @@ add-at-3 c =
     let within = colour-within _ _ _ _ _ _ _ _ _ _ _ (l .inv) (c .before .before .colour .given .0 .0) (finds _ _ _ _ _ _ _ _ _ _ _ (l .inv) _ _ (c .before .before .before .before .read .ensures) (c .before .before .colour .given .1)) in
     record { fits = omega (arith, c .size .ensures, within) }
 
+alpha-requires : tie.Need-alpha-requires Inv-loop μ-loop
+alpha-requires c κs = search needs
+
 recolour-requires : tie.Need-recolour-requires Inv-loop μ-loop
 recolour-requires c κs = search needs
 
@@ -183,10 +186,11 @@ loop-less-3 c = search needs
 loop-again-3 : tie.Need-loop-again-3 Inv-loop μ-loop
 unfolding decoderKeeps
 loop-again-3 c =
-    let l = c .before .before .before .before .before .before .before .before .before .before .before .before .before .before .loop in
-    rw (slots-set, c .before .before .before .before .before .before .before .size .ensures, c .before .before .before .before .slot2 .ensures)
-    (after-colour _ _ _ _ _ _ _ _ _ _ _ (l .inv) (c .before .before .before .before .before .before .before .before .before .before .before .before .before .loop-test .taken) threeBytes three-bytes (c .before .before .before .before .before .before .before .before .before .colour .given .0 .0)
-    (finds _ _ _ _ _ _ _ _ _ _ _ (l .inv) _ _ (c .before .before .before .before .before .before .before .before .before .before .before .read .ensures) (c .before .before .before .before .before .before .before .before .before .colour .given .1)) _ (c .before .before .before .before .before .opaque2 .ensures ∙ ap (λ (q : Pixel). withAlpha q 255) (c .before .before .before .before .before .before .recolour .ensures)) _ (c .before .before .put-three2 .ensures))
+    let l = c .before .before .before .before .before .before .before .before .before .before .before .before .before .before .before .loop in
+    let colour = c .before .before .before .before .before .before .before .before .before .before .colour .given .0 .0 in
+    rw (slots-set, c .before .before .before .before .before .before .before .before .size .ensures, c .before .before .before .before .slot2 .ensures)
+    (after-colour _ _ _ _ _ _ _ _ _ _ _ (l .inv) (c .before .before .before .before .before .before .before .before .before .before .before .before .before .before .loop-test .taken) threeBytes three-bytes colour
+    (finds _ _ _ _ _ _ _ _ _ _ _ (l .inv) _ _ (c .before .before .before .before .before .before .before .before .before .before .before .before .read .ensures) (c .before .before .before .before .before .before .before .before .before .before .colour .given .1)) _ (c .before .before .before .before .before .opaque2 .ensures ∙ ap (λ (q : Pixel). withAlpha q 255) (recoloured _ _ _ colour (c .before .before .before .before .before .before .before .alpha .ensures) (c .before .before .before .before .before .before .recolour .ensures))) _ (c .before .before .put-three2 .ensures))
 
 n-pixels-requires-2 : tie.Need-n-pixels-requires-2 Inv-loop μ-loop
 n-pixels-requires-2 c κs = search needs
@@ -245,6 +249,7 @@ decode-three-spec =
     enum-known-colour
     size-requires
     add-at-3
+    alpha-requires
     recolour-requires
     opaque-requires-2
     slot-requires
