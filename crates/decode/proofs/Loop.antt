@@ -2,13 +2,13 @@
 -- Assumes nothing.
 use mathlib.Core.Path.{_≡_, refl, sym, _∙_, ap, ap₂}
 use mathlib.Core.Bool.{Bool, true, false, cond}
-use mathlib.Core.List.{List, [], _∷_, _++_, append-assoc, append-nil}
+use mathlib.Core.List.{List, [], _∷_, append-nil}
 use Prim.Native.Nat.{ℕ, zero, suc, _+_, _-_, _*_, _≤_, _<_, min, zero-le}
-use native.Mathlib.Nat.{add-mul, zero-mul, mul-le-mul-right}
+use native.Mathlib.Nat.{zero-mul, mul-le-mul-right}
 use native.Mathlib.Omega.{arith}
 use borrow.Author.Tests.{lt-ltb}
 use lib.Dec.{eqb}
-use lib.ListN.{length, getD, take, drop, set, replicate, length-set, length-drop, take-append-drop, getD-replicate}
+use lib.ListN.{length, getD, take, drop, set, replicate, length-drop, take-append-drop}
 use lib.Seq.{length-take-le, drop-drop}
 use Rattle.pixel.specs.declared.Pixel.{Pixel}
 use Rattle.pixel.specs.declared.error.Error.the-variants.{UnexpectedBufferEnd}
@@ -17,11 +17,13 @@ use Rattle.pixel.specs.Types.{channelsNumber}
 use Rattle.pixel.specs.declared.types.Channels.{Channels}
 use Rattle.header.specs.declared.Header.{Header}
 use Rattle.header.specs.Header.{pixelCount}
-use Rattle.rules.specs.Chunk.{Chunk, cut, chunk, chunkAt, colourOf, timesOf, sizeOf, INDEX, DIFF, LUMA, RUN, RGB, RGBA, Stuck}
+use Rattle.rules.specs.Chunk.{Chunk, cut, chunk, chunkAt, colourOf, timesOf, sizeOf, INDEX, RUN}
 use Rattle.rules.specs.Reading.{Place, Answer, refused, Reading, silent, after, readOn, more, end, move, moveBy, remaining, startPlace, closing, pasted, repeated, pixelsBrought, pixelAfter, placeAfter, bytesOf}
 use Rattle.rules.specs.Decode.{decoder, decoderStores, decoderKeeps, decoderReadsRgba, writtenOver}
-use Rattle.rules.proofs.ChunkLaws.{SlotFits, Sound, SoundFound, something, sound-found}
-use Rattle.rules.proofs.ReadingLaws.{remaining-unfolds, moved-last, stays-within}
+use Rattle.rules.proofs.ChunkLaws.{Sound, SoundFound, something, sound-found}
+use Rattle.rules.proofs.PastingLaws.{take-pasted, drop-pasted, length-pasted}
+use Rattle.rules.proofs.PlaceLaws.{Shaped, shaped-start, pixel-shaped, shaped-next, pixel-reached, stays-inside}
+use Rattle.rules.proofs.ReadingLaws.{remaining-unfolds, moved-last, stays-within, after-after}
 use Rattle.chunk.specs.declared.Colour.{Colour}
 use Rattle.chunk.specs.declared.Colour.the-variants as colour
 use Rattle.chunk.specs.declared.Found.{Found}
@@ -29,61 +31,11 @@ use Rattle.chunk.specs.declared.Found.the-variants as found
 use Rattle.chunk.specs.Found.{foundOf, chunkOf}
 use Rattle.decode.specs.Inner.{threeBytes, fourBytes}
 use Rattle.decode.proofs.Ends.{whole-tail}
-use Rattle.decode.proofs.Pasting.{take-pasted, drop-pasted, length-pasted, repeated-length}
 
 -- a slot is one of 64
 pub slot-below : (p : Pixel) → slotOf p < 64
 unfolding slotOf
 slot-below p = omega arith
-
--- four bytes a pixel, 64 slots
-pub record Shaped (slots : List Pixel) (current : Pixel) : Type 0 where
-  pub current-is : length (current .rgba) ≡ 4
-  pub slots-are : length slots ≡ 64
-  pub slot-is : (i : ℕ) → i < 64 → length (getD slots i clearPixel .rgba) ≡ 4
-
--- what a chunk brings has four bytes
-colour-shaped : (slots : List Pixel) (current : Pixel) → Shaped slots current → (k : Chunk) → SlotFits k → length (colourOf slots current k .rgba) ≡ 4
-unfolding colourOf
-colour-shaped slots current shaped (INDEX slot) fits = shaped .slot-is slot fits
-colour-shaped slots current shaped (DIFF r g b) fits = refl
-colour-shaped slots current shaped (LUMA g r b) fits = refl
-colour-shaped slots current shaped (RUN times) fits = shaped .current-is
-colour-shaped slots current shaped (RGB r g b) fits = refl
-colour-shaped slots current shaped (RGBA r g b a) fits = refl
-colour-shaped slots current shaped Stuck fits = shaped .current-is
-
-kept-shaped : (wanted : ℕ) (p : Pixel) → length (p .rgba) ≡ 4 → length (decoderKeeps wanted p .rgba) ≡ 4
-unfolding decoderKeeps
-kept-shaped wanted p four = go (eqb wanted 3)
-  where
-    go : (b : Bool) → length ((cond b (withAlpha p 255) p) .rgba) ≡ 4
-    go true = refl
-    go false = four
-
--- what holds of a value stored and of each before holds of each after
-set-keeps : (P : Pixel → Type 0) (l : List Pixel) (s i : ℕ) (p d : Pixel) → P p → P (getD l i d) → P (getD (set l s p) i d)
-set-keeps P [] s i p d new old = old
-set-keeps P (x ∷ xs) zero zero p d new old = new
-set-keeps P (x ∷ xs) zero (suc i) p d new old = old
-set-keeps P (x ∷ xs) (suc s) zero p d new old = old
-set-keeps P (x ∷ xs) (suc s) (suc i) p d new old = set-keeps P xs s i p d new old
-
--- a pixel of four bytes stored in a slot
-stored-shaped :
-    (b : Bool) (slots : List Pixel) (current p : Pixel) → Shaped slots current → length (p .rgba) ≡ 4
-    → Shaped (cond b (set slots (slotOf p) p) slots) p
-stored-shaped true slots current p shaped four =
-    record {
-      current-is = four;
-      slots-are = length-set slots (slotOf p) p ∙ shaped .slots-are;
-      slot-is = λ i h. set-keeps (λ q. length (q .rgba) ≡ 4) slots (slotOf p) i p clearPixel four (shaped .slot-is i h);
-    }
-stored-shaped false slots current p shaped four =
-    record { current-is = four; slots-are = shaped .slots-are; slot-is = shaped .slot-is }
-
-after-after : (a b : List ℕ) (r : Reading) → after (a ++ b) r ≡ after a (after b r)
-after-after a b r = λ i. record { answer = r .answer; bytes = append-assoc a b (r .bytes) i }
 
 sound-of : {part : List ℕ} {k : Chunk} → SoundFound part (chunk k) → Sound part k
 sound-of (something k s) = s
@@ -111,12 +63,7 @@ module _ (header : Header) (wanted : ℕ) (message : List ℕ) where
         within = zero-le;
         inside = long;
         same-length = refl;
-        shaped =
-            record {
-              current-is = refl;
-              slots-are = refl;
-              slot-is = λ i h. ap (λ (q : Pixel). length (q .rgba)) (getD-replicate 64 i clearPixel clearPixel h);
-            };
+        shaped = shaped-start;
         untouched = refl;
         whole = rw (zero-mul wanted);
       }
@@ -179,21 +126,9 @@ module _ (header : Header) (wanted : ℕ) (message : List ℕ) where
       abbrev bytes : List ℕ
       bytes = bytesOf decoder header wanted here k
 
-      four : length (pixelAfter decoder wanted here k .rgba) ≡ 4
-      unfolding pixelAfter
-      four = kept-shaped wanted (colourOf slots current k) (colour-shaped slots current (g .shaped) k (sound .slot))
-
-      bytes-length : length bytes ≡ pixelsBrought header here k * wanted
-      unfolding bytesOf
-      bytes-length =
-          repeated-length (pixelsBrought header here k) (take wanted (pixelAfter decoder wanted here k .rgba))
-          ∙ ap (λ (n : ℕ). pixelsBrought header here k * n)
-          (length-take-le wanted (pixelAfter decoder wanted here k .rgba) (omega (arith, four)))
-
       -- the next pixel's place in the output is where the bytes end
       reached : next .pixel * wanted ≡ pixel * wanted + length bytes
-      unfolding placeAfter
-      reached = rw (bytes-length) (add-mul pixel (pixelsBrought header here k) wanted)
+      reached = pixel-reached header wanted here k (g .shaped) sound few
 
       fits : pixel * wanted + length bytes ≤ length out
       fits =
@@ -204,24 +139,15 @@ module _ (header : Header) (wanted : ℕ) (message : List ℕ) where
       unfolding move moveBy
       moves = rw (lt-ltb pixel (pixelCount header) missing, found)
 
-      inside-next : next .at ≤ length message
-      unfolding placeAfter
-      inside-next = omega (arith, g .inside, simp length-drop at (sound .fits))
-
-      shaped-next : Shaped (next .slots) (next .current)
-      unfolding placeAfter
-      shaped-next =
-          stored-shaped (decoderStores k) slots current (pixelAfter decoder wanted here k) (g .shaped) four
-
       pub goes-on :
           (out′ : List ℕ) → out′ ≡ pasted (pixel * wanted) bytes out
           → Going out₀ out′ (next .slots) (next .current) (next .at) (next .pixel)
       goes-on out′ written =
           record {
             within = stays-within decoder header wanted here k (g .within);
-            inside = inside-next;
+            inside = stays-inside header wanted message here k (g .inside) sound;
             same-length = ap length written ∙ length-pasted out (pixel * wanted) bytes fits ∙ g .same-length;
-            shaped = shaped-next;
+            shaped = shaped-next header wanted here k (g .shaped) sound;
             untouched =
                 rw (reached, written)
                 (drop-pasted out (pixel * wanted) bytes fits
@@ -370,7 +296,7 @@ module _ (header : Header) (wanted : ℕ) (message out₀ : List ℕ) (pixels : 
     unfolding placeAfter bytesOf
     headed-by k f n often p brings slots′ stores out′ written =
         let shape : length (p .rgba) ≡ 4 =
-        ap (λ (q : Pixel). length (q .rgba)) (sym brings) ∙ four header wanted message out₀ out slots current at pixel (h .going) k left (h .room) (h .few) f in
+        ap (λ (q : Pixel). length (q .rgba)) (sym brings) ∙ pixel-shaped header wanted (placeOf at pixel current slots) k (h .going .shaped) (sound header wanted message out₀ out slots current at pixel (h .going) k left (h .room) (h .few) f) in
         headed k f out′
         (written
         ∙ ap (λ (b : List ℕ). pasted (pixel * wanted) (repeated n b) out) (first p shape)

@@ -3,12 +3,13 @@
 use mathlib.Core.Path.{_≡_, sym, _∙_, ap}
 use mathlib.Core.List.{List, [], _∷_, _++_, append-assoc, append-nil}
 use Prim.Native.Nat.{ℕ, zero, suc, _+_, _*_, _≤_}
-use native.Mathlib.Nat.{add-assoc, add-zero, suc-mul, zero-mul}
+use native.Mathlib.Nat.{add-assoc, add-zero}
 use native.Mathlib.Numerals.{towards-suc, add-one}
 use native.Mathlib.Omega.{arith}
-use lib.ListN.{take-append-drop, length, take, drop, set, length-append, length-take, length-drop}
-use lib.Seq.{sets, sets-eq, take-at, drop-at, drop-drop}
+use lib.ListN.{take-append-drop, length, take, drop, set, length-append}
+use lib.Seq.{sets, sets-eq, drop-drop}
 use Rattle.rules.specs.Reading.{pasted, repeated}
+use Rattle.rules.proofs.PastingLaws.{take-pasted, drop-pasted, repeated-length}
 
 -- a list of bytes stored one after another
 pub stored : (bytes out : List ℕ) (at : ℕ) → at + length bytes ≤ length out → sets out at bytes ≡ pasted at bytes out
@@ -23,22 +24,6 @@ pub stored-four :
     (out : List ℕ) (at a b c d : ℕ) → at + 4 ≤ length out
     → set (set (set (set out at a) (at + 1) b) (at + 2) c) (at + 3) d ≡ pasted at (a ∷ b ∷ c ∷ d ∷ []) out
 stored-four out at a b c d fits = simp towards-suc (simp towards-suc at (stored (a ∷ b ∷ c ∷ d ∷ []) out at fits))
-
-module _ (out : List ℕ) (at : ℕ) (bytes : List ℕ) (fits : at + length bytes ≤ length out) where
-  head-length : length (take at out ++ bytes) ≡ at + length bytes
-  head-length = simp (length-append, length-take) (omega arith)
-
-  -- the output up to the end of what was put
-  pub take-pasted : take (at + length bytes) (pasted at bytes out) ≡ take at out ++ bytes
-  take-pasted = rw (← append-assoc) (take-at (take at out ++ bytes) (drop (at + length bytes) out) (at + length bytes) head-length)
-
-  -- and after it
-  pub drop-pasted : drop (at + length bytes) (pasted at bytes out) ≡ drop (at + length bytes) out
-  drop-pasted = rw (← append-assoc) (drop-at (take at out ++ bytes) (drop (at + length bytes) out) (at + length bytes) head-length)
-
-  -- its length is kept
-  pub length-pasted : length (pasted at bytes out) ≡ length out
-  length-pasted = simp (length-append, length-take, length-drop) (omega arith)
 
 -- a part put after a part
 pub pasted-next :
@@ -59,11 +44,6 @@ pub repeated-more : (n : ℕ) (bytes : List ℕ) → repeated n bytes ++ bytes �
 unfolding repeated
 repeated-more zero bytes = sym (append-nil bytes)
 repeated-more (suc n) bytes = append-assoc bytes (repeated n bytes) bytes ∙ ap (λ (l : List ℕ). bytes ++ l) (repeated-more n bytes)
-
-pub repeated-length : (n : ℕ) (bytes : List ℕ) → length (repeated n bytes) ≡ n * length bytes
-unfolding repeated
-repeated-length zero bytes = sym (zero-mul (length bytes))
-repeated-length (suc n) bytes = simp (length-append, suc-mul) (omega (arith, repeated-length n bytes))
 
 -- one more time over, put after the others
 pub filled-more :

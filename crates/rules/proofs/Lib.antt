@@ -1,4 +1,6 @@
 -- The laws of the definitions, for the layers above to cite.
 pub mod ChunkLaws
+pub mod PastingLaws
+pub mod PlaceLaws
 pub mod ReadingLaws
 pub mod RecordLaws

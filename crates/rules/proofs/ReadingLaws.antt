@@ -2,9 +2,9 @@
 -- Assumes nothing.
 use mathlib.Core.Path.{_≡_, refl, ap, _∙_}
 use mathlib.Core.Bool.{Bool, true, false, cond}
-use mathlib.Core.List.{List}
+use mathlib.Core.List.{List, _++_, append-assoc}
 use Prim.Native.Nat.{ℕ, zero, suc, _+_, _-_, _*_, _≤_, _<_, zero-le}
-use native.Mathlib.Nat.{add-mul, suc-mul}
+use native.Mathlib.Nat.{add-mul, mul-le-mul-left}
 use native.Mathlib.Omega.{arith}
 use borrow.Author.Tests.{ltb-true, le-ltb}
 use lib.Dec.{ltb}
@@ -13,32 +13,19 @@ use Rattle.header.specs.declared.Header.{Header}
 use Rattle.header.specs.Header.{pixelCount}
 use Rattle.pixel.specs.Types.{channelsNumber}
 use Rattle.rules.specs.Chunk.{Chunk, Found, chunkAt, timesOf}
-use Rattle.rules.proofs.ChunkLaws.{SoundFound, nothing, something, sound-found}
-use Rattle.rules.specs.Reading.{Way, Place, Answer, Move, more, end, ended, after, remaining, playedAfter, readOn, playOn, repeated, closing, sizeWanted, pixelsBrought, pixelAfter, placeAfter, bytesOf, moveBy, move, played, reading}
+use Rattle.rules.proofs.ChunkLaws.{Sound, SoundFound, nothing, something, sound-found}
+use Rattle.rules.proofs.PastingLaws.{repeated-length}
+use Rattle.rules.specs.Reading.{Way, Place, Answer, Move, Reading, more, end, ended, after, remaining, playedAfter, readOn, playOn, repeated, closing, sizeWanted, pixelsBrought, pixelAfter, placeAfter, bytesOf, moveBy, move, played, reading}
 
 -- bytes written so many times over are at most so many times their bound
 repeated-size : (n : ℕ) (bytes : List ℕ) {bound : ℕ} → length bytes ≤ bound → length (repeated n bytes) ≤ n * bound
-unfolding repeated
-repeated-size zero bytes fits = zero-le
-repeated-size (suc n) bytes {bound} fits =
-    simp (length-append, suc-mul) (omega (arith, repeated-size n bytes fits))
+repeated-size n bytes fits = rw (repeated-length n bytes) (mul-le-mul-left n fits)
+
+-- bytes written before bytes written before
+pub after-after : (a b : List ℕ) (r : Reading) → after (a ++ b) r ≡ after a (after b r)
+after-after a b r = λ i. record { answer = r .answer; bytes = append-assoc a b (r .bytes) i }
 
 module _ (way : Way) (header : Header) (wanted : ℕ) where
-  -- the two kinds of move: by a chunk that brings a pixel where one is missing, and the end
-  pub data Moved (place : Place) : Move → Type 0 where
-    by-chunk :
-        (k : Chunk) → 1 ≤ timesOf k → place .pixel < pixelCount header
-        → Moved place (more (placeAfter way header wanted place k) (bytesOf way header wanted place k))
-    at-end : (answer : Answer) → Moved place (end answer)
-
-  -- what is found at a place where a pixel is missing makes a move of one kind or the other
-  moved-by :
-      (place : Place) (part : List ℕ) → place .pixel < pixelCount header → (f : Found) → SoundFound part f
-      → Moved place (moveBy way header wanted place f)
-  unfolding moveBy
-  moved-by place part missing f nothing = at-end _
-  moved-by place part missing f (something k sound) = by-chunk k (sound .once) missing
-
   -- a chunk that brings a pixel moves the pixel position on
   pub advances :
       (place : Place) (k : Chunk) → 1 ≤ timesOf k → place .pixel < pixelCount header
@@ -71,8 +58,23 @@ module _ (way : Way) (header : Header) (wanted : ℕ) where
   missing-split place k within = omega arith
 
 module _ (way : Way) (header : Header) (wanted : ℕ) (message : List ℕ) where
+  -- the two kinds of move: by a chunk of the message from here on where a pixel is missing, and the end
+  pub data Moved (place : Place) : Move → Type 0 where
+    by-chunk :
+        (k : Chunk) → Sound (drop (place .at) message) k → place .pixel < pixelCount header
+        → Moved place (more (placeAfter way header wanted place k) (bytesOf way header wanted place k))
+    at-end : (answer : Answer) → Moved place (end answer)
+
+  -- what is found at a place where a pixel is missing makes a move of one kind or the other
+  moved-by :
+      (place : Place) → place .pixel < pixelCount header → (f : Found) → SoundFound (drop (place .at) message) f
+      → Moved place (moveBy way header wanted place f)
+  unfolding moveBy
+  moved-by place missing f nothing = at-end _
+  moved-by place missing f (something k sound) = by-chunk k sound missing
+
   -- each move brings a pixel or is the end
-  pub moved : (place : Place) → Moved way header wanted place (move way header wanted message place)
+  pub moved : (place : Place) → Moved place (move way header wanted message place)
   unfolding move
   moved place = go (ltb (place .pixel) (pixelCount header)) refl
     where
@@ -81,8 +83,8 @@ module _ (way : Way) (header : Header) (wanted : ℕ) (message : List ℕ) where
 
       go :
           (b : Bool) → ltb (place .pixel) (pixelCount header) ≡ b
-          → Moved way header wanted place (cond b (moveBy way header wanted place found) (end (closing (sizeWanted header wanted) message (place .at))))
-      go true e = moved-by way header wanted place (drop (place .at) message) (ltb-true _ _ e) found (sound-found _ _)
+          → Moved place (cond b (moveBy way header wanted place found) (end (closing (sizeWanted header wanted) message (place .at))))
+      go true e = moved-by place (ltb-true _ _ e) found (sound-found _ _)
       go false e = at-end _
 
   -- with no pixel missing a move is the marker test
@@ -102,12 +104,12 @@ module _ (way : Way) (header : Header) (wanted : ℕ) (message : List ℕ) where
     where
       go :
           ((next : Place) → pixelCount header ≤ next .pixel + n → played way header wanted message (suc n) next ≡ ended (reading way header wanted message n next))
-          → (m : Move) → Moved way header wanted place m
+          → (m : Move) → Moved place m
           → playOn (played way header wanted message (suc n)) m ≡ ended (readOn (reading way header wanted message n) m)
       go ih m (at-end answer) = refl
-      go ih m (by-chunk k once missing) =
+      go ih m (by-chunk k sound missing) =
           ap (playedAfter (bytesOf way header wanted place k))
-          (ih (placeAfter way header wanted place k) (omega (arith, advances way header wanted place k once missing)))
+          (ih (placeAfter way header wanted place k) (omega (arith, advances way header wanted place k (sound .once) missing)))
 
   -- a reading is the same with any fuel that is enough
   reading-enough :
@@ -122,12 +124,12 @@ module _ (way : Way) (header : Header) (wanted : ℕ) (message : List ℕ) where
       go :
           ((next : Place) → pixelCount header ≤ next .pixel + n → pixelCount header ≤ next .pixel + m
           → reading way header wanted message n next ≡ reading way header wanted message m next)
-          → (v : Move) → Moved way header wanted place v
+          → (v : Move) → Moved place v
           → readOn (reading way header wanted message n) v ≡ readOn (reading way header wanted message m) v
       go ih v (at-end answer) = refl
-      go ih v (by-chunk k once missing) =
+      go ih v (by-chunk k sound missing) =
           ap (after (bytesOf way header wanted place k))
-          (ih (placeAfter way header wanted place k) (omega (arith, advances way header wanted place k once missing)) (omega (arith, advances way header wanted place k once missing)))
+          (ih (placeAfter way header wanted place k) (omega (arith, advances way header wanted place k (sound .once) missing)) (omega (arith, advances way header wanted place k (sound .once) missing)))
 
   -- the reading from a place is a move and then the reading from where it leads
   pub remaining-unfolds :
@@ -140,12 +142,12 @@ module _ (way : Way) (header : Header) (wanted : ℕ) (message : List ℕ) where
       ∙ step (move way header wanted message place) (moved place)
     where
       step :
-          (v : Move) → Moved way header wanted place v
+          (v : Move) → Moved place v
           → readOn (reading way header wanted message (pixelCount header - place .pixel)) v ≡ readOn (remaining way header wanted message) v
       step v (at-end answer) = refl
-      step v (by-chunk k once missing) =
+      step v (by-chunk k sound missing) =
           ap (after (bytesOf way header wanted place k))
-          (reading-enough (pixelCount header - place .pixel) (pixelCount header - placeAfter way header wanted place k .pixel) (placeAfter way header wanted place k) (omega (arith, advances way header wanted place k once missing)) (omega arith))
+          (reading-enough (pixelCount header - place .pixel) (pixelCount header - placeAfter way header wanted place k .pixel) (placeAfter way header wanted place k) (omega (arith, advances way header wanted place k (sound .once) missing)) (omega arith))
 
   -- a reading never writes more bytes than the pixels missing times wanted
   pub reading-size :
@@ -157,10 +159,10 @@ module _ (way : Way) (header : Header) (wanted : ℕ) (message : List ℕ) where
     where
       go :
           ((next : Place) → length (reading way header wanted message n next .bytes) ≤ (pixelCount header - next .pixel) * wanted)
-          → (m : Move) → Moved way header wanted place m
+          → (m : Move) → Moved place m
           → length (readOn (reading way header wanted message n) m .bytes) ≤ (pixelCount header - place .pixel) * wanted
       go ih m (at-end answer) = zero-le
-      go ih m (by-chunk k once missing) =
+      go ih m (by-chunk k sound missing) =
           simp length-append
           (rw (missing-split way header wanted place k (omega arith), add-mul)
           (omega (arith, chunk-size way header wanted place k, ih (placeAfter way header wanted place k))))

@@ -6,7 +6,7 @@ use mathlib.Core.List.{List, [], _∷_, _++_, append-assoc, append-nil}
 use Prim.Native.Nat.{ℕ, suc, _*_, _^_, _≤_, _<_}
 use native.Mathlib.Omega.{arith}
 use borrow.Author.Tests.{eqb-true, le-ltb}
-use lib.Dec.{T, eqb, leb, leb→le}
+use lib.Dec.{T, eqb, leb→le}
 use lib.ListN.{length, getD, drop, length-append, length-drop}
 use lib.Seq.{drop-at}
 use Rattle.pixel.specs.declared.Pixel.{Pixel}
@@ -78,6 +78,13 @@ formed s t =
       alpha-passes = both (pixelPasses s) _ fourth .1;
     }
 
+-- a state that passes each is well formed
+pub forms : (s : State) → Formed s → T (wellFormed s)
+unfolding wellFormed
+forms s f =
+    rw (is-true (headerPasses s) (f .header-passes), is-true (wantedPasses s) (f .wanted-passes), is-true (atPasses s) (f .at-passes), is-true (pixelPasses s) (f .pixel-passes))
+    (f .alpha-passes)
+
 -- wanted 3 or 4 is a channel count, and its number is wanted again
 wanted-channels : (wanted : ℕ) → T (eqb wanted 3 || eqb wanted 4) → (c : Channels) × (channelsFrom wanted ≡ channels-read.Ok c) × (channelsNumber c ≡ wanted)
 wanted-channels wanted t = go (eqb wanted 3) refl (eqb wanted 4) refl t
@@ -94,6 +101,12 @@ channels-small : (c : Channels) → channelsNumber c ≤ 4
 channels-small Rgb = omega arith
 channels-small Rgba = omega arith
 
+-- a well-formed state wants four channels at most
+pub wanted-few : (s : State) → T (wellFormed s) → s .wanted ≤ 4
+wanted-few s well =
+    let count = wanted-channels (s .wanted) (formed s well .wanted-passes) in
+    omega (arith, count .2, channels-small (count .0))
+
 module _ (s : State) (typed : Typed s) (well : T (wellFormed s)) where
   -- the pixel position takes five bytes at most
   pixel-small : s .place .pixel < 2 ^ 35
@@ -103,9 +116,7 @@ module _ (s : State) (typed : Typed s) (well : T (wellFormed s)) where
 
   -- wanted takes one byte
   wanted-small : s .wanted < 128
-  wanted-small =
-      let count = wanted-channels (s .wanted) (formed s well .wanted-passes) in
-      omega (arith, count .2, channels-small (count .0))
+  wanted-small = omega (arith, wanted-few s well)
 
   -- each slot has four bytes
   fours : Fours (s .place .slots)

@@ -1,0 +1,37 @@
+-- Laws of bytes put into an output at a place: what stands before and after them, and how many there are.
+-- Assumes nothing.
+use mathlib.Core.Path.{_≡_, sym}
+use mathlib.Core.List.{List, _++_, append-assoc}
+use Prim.Native.Nat.{ℕ, zero, suc, _+_, _*_, _≤_}
+use native.Mathlib.Nat.{suc-mul, zero-mul}
+use native.Mathlib.Omega.{arith}
+use lib.ListN.{length, take, drop, length-append, length-take, length-drop}
+use lib.Seq.{length-take-le, take-at, drop-at}
+use Rattle.rules.specs.Reading.{pasted, repeated}
+
+-- what stands before the place is kept
+pub before-pasted : (out : List ℕ) (at : ℕ) (bytes : List ℕ) → at ≤ length out → take at (pasted at bytes out) ≡ take at out
+before-pasted out at bytes within =
+    take-at (take at out) (bytes ++ drop (at + length bytes) out) at (length-take-le at out within)
+
+module _ (out : List ℕ) (at : ℕ) (bytes : List ℕ) (fits : at + length bytes ≤ length out) where
+  head-length : length (take at out ++ bytes) ≡ at + length bytes
+  head-length = simp (length-append, length-take) (omega arith)
+
+  -- the output up to the end of what was put
+  pub take-pasted : take (at + length bytes) (pasted at bytes out) ≡ take at out ++ bytes
+  take-pasted = rw (← append-assoc) (take-at (take at out ++ bytes) (drop (at + length bytes) out) (at + length bytes) head-length)
+
+  -- and after it
+  pub drop-pasted : drop (at + length bytes) (pasted at bytes out) ≡ drop (at + length bytes) out
+  drop-pasted = rw (← append-assoc) (drop-at (take at out ++ bytes) (drop (at + length bytes) out) (at + length bytes) head-length)
+
+  -- its length is kept
+  pub length-pasted : length (pasted at bytes out) ≡ length out
+  length-pasted = simp (length-append, length-take, length-drop) (omega arith)
+
+-- bytes written so many times over are so many times as many
+pub repeated-length : (n : ℕ) (bytes : List ℕ) → length (repeated n bytes) ≡ n * length bytes
+unfolding repeated
+repeated-length zero bytes = sym (zero-mul (length bytes))
+repeated-length (suc n) bytes = simp (length-append, suc-mul) (omega (arith, repeated-length n bytes))
