@@ -3,11 +3,26 @@ ghost use mathlib.Core.Path.{_≡_};
 ghost use Prim.Native.Nat.{_/_, _%_};
 ghost use Rattle.pixel.specs.Colour.{pixelOf, slotOf, withAlpha};
 ghost use Rattle.pixel.specs.Packed.{unpacked};
+use crate::Pixel;
 
 pub fn pack(r: u8, g: u8, b: u8, a: u8) -> u32
     ensures { λ p. ⌜ unpacked p ≡ pixelOf r g b a ⌝ }
 {
     (r as u32) + (g as u32) * 256 + (b as u32) * 0x1_0000 + (a as u32) * 0x100_0000
+}
+
+// The pixel as one number.
+pub fn packed(p: Pixel) -> u32
+    ensures { λ n. ⌜ unpacked n ≡ p ⌝ }
+{
+    pack(p.r(), p.g(), p.b(), p.a())
+}
+
+// The pixel that a number packs.
+pub fn unpack(p: u32) -> Pixel
+    ensures { λ q. ⌜ q ≡ unpacked p ⌝ }
+{
+    Pixel::new(red(p), green(p), blue(p), alpha(p))
 }
 
 pub fn red(p: u32) -> u8
