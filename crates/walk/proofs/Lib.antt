@@ -1,0 +1,6 @@
+-- The laws of crate `walk`.
+pub mod Ends
+pub mod Fitting
+pub mod Loop
+pub mod Packed
+pub mod Pasting

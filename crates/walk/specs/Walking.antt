@@ -1,0 +1,63 @@
+-- Some chunks of a decode, from any place: where they lead, what they leave in the part of the output from the first one's pixel on.
+use mathlib.Core.Bool.{Bool, true, false, cond, _&&_}
+use mathlib.Core.List.{List}
+use Prim.Native.Nat.{ℕ, zero, suc, _+_, _-_, _*_}
+use lib.Dec.{ltb, leb}
+use lib.ListN.{length}
+use Rattle.header.specs.declared.Header.{Header}
+use Rattle.header.specs.Header.{dimensionsFit, pixelCount}
+use Rattle.rules.specs.Reading.{Move, more, end, move, pasted}
+use Rattle.rules.specs.Reading as rules
+use Rattle.rules.specs.Decode.{decoder}
+use Rattle.walk.specs.declared.Place.{Place}
+use Rattle.walk.specs.declared.Walked.{Walked}
+
+-- the place of the rules that a place is
+abbrev pub placeOf : Place → rules.Place
+placeOf p = record { at = p .at; pixel = p .pixel; current = p .current; slots = p .slots }
+
+-- whether the next chunk is cut short, how many more were allowed, where it stands, and the output
+pub record Walk : Type 0 where
+  pub cut : Bool
+  pub left : ℕ
+  pub place : rules.Place
+  pub out : List ℕ
+
+-- what an answer and the output at exit are
+abbrev pub walkOf : Walked → List ℕ → Walk
+walkOf w out = record { cut = w .cut; left = w .left; place = placeOf (w .place); out = out }
+
+-- it stands, with so many more allowed
+abbrev pub standing : ℕ → rules.Place → List ℕ → Walk
+standing left place out = record { cut = false; left = left; place = place; out = out }
+
+-- it stands before a chunk that is cut short
+abbrev pub stopped : ℕ → rules.Place → List ℕ → Walk
+stopped left place out = record { cut = true; left = left; place = place; out = out }
+
+module _ (header : Header) (wanted : ℕ) (message : List ℕ) (from : ℕ) where
+  -- a move, and then those that follow it; where a pixel is missing, only a chunk that is cut short ends
+  abbrev pub walkOn : (rules.Place → List ℕ → Walk) → ℕ → rules.Place → List ℕ → Move → Walk
+  walkOn next left place out (more place′ bytes) = next place′ (pasted ((place .pixel - from) * wanted) bytes out)
+  walkOn next left place out (end answer) = stopped left place out
+
+  -- at most so many chunks, while a pixel is missing
+  unfoldable pub walking : ℕ → rules.Place → List ℕ → Walk
+  walking zero place out = standing 0 place out
+  walking (suc n) place out =
+      cond (ltb (place .pixel) (pixelCount header))
+      (walkOn (walking n) (suc n) place out (move decoder header wanted message place)) (standing (suc n) place out)
+
+-- the header passes its test; byte position, pixel position, steps and the pixels' bytes lie within what there is
+unfoldable pub fits : Header → ℕ → ℕ → ℕ → ℕ → ℕ → ℕ → Bool
+fits header wanted size steps at pixel room =
+    dimensionsFit (header .width) (header .height)
+    && (leb at size
+    && (leb pixel (pixelCount header)
+    && (leb steps (pixelCount header + 1) && leb ((pixelCount header - pixel) * wanted) room)))
+
+-- at most so many chunks where the input fits, and else none
+unfoldable pub walkingInto : Header → ℕ → List ℕ → ℕ → rules.Place → List ℕ → Walk
+walkingInto header wanted message steps place out =
+    cond (fits header wanted (length message) steps (place .at) (place .pixel) (length out))
+    (walking header wanted message (place .pixel) steps place out) (standing steps place out)
