@@ -1,5 +1,3 @@
--- The laws behind the decode's loops.
+-- The laws behind the decode.
 pub mod Ends
-pub mod Loop
-pub mod Pasting
-pub mod Slots
+pub mod Whole

@@ -9,9 +9,7 @@ use header::HeaderRead;
 use pixel::error::Error;
 use pixel::types::Channels;
 
-mod four;
 mod inner;
-mod three;
 
 pub enum Decoded {
     // Bytes written, and message bytes used: header, chunks and marker.

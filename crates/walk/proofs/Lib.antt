@@ -4,4 +4,4 @@ pub mod Fitting
 pub mod Loop
 pub mod Packed
 pub mod Pasting
-pub mod Reads
+pub mod WalkLaws

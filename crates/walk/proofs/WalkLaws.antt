@@ -57,9 +57,10 @@ module _ (header : Header) (wanted : ℕ) (message : List ℕ) (from : ℕ) wher
       → Reads (walking header wanted message from (suc n) place out) (remaining decoder header wanted message place) ((place .pixel - from) * wanted) out
   unfolding walking move moveBy
   reads-cut n place out ready missing found =
+      let stops : move decoder header wanted message place ≡ end (refused UnexpectedBufferEnd) =
+      rw (lt-ltb (place .pixel) (pixelCount header) missing, found) in
       let ends : remaining decoder header wanted message place ≡ silent (refused UnexpectedBufferEnd) =
-      remaining-unfolds decoder header wanted message place
-      ∙ ap (readOn (remaining decoder header wanted message)) (rw (lt-ltb (place .pixel) (pixelCount header) missing, found)) in
+      remaining-unfolds decoder header wanted message place ∙ ap (readOn (remaining decoder header wanted message)) stops in
       rw (ends, lt-ltb (place .pixel) (pixelCount header) missing, found)
       (record { inside = ready .inside; answers = refl; writes = sym (pasted-none out ((place .pixel - from) * wanted)) })
 
@@ -145,22 +146,27 @@ module _ (header : Header) (wanted : ℕ) (message : List ℕ) (from : ℕ) wher
       (n : ℕ) (place : Place) (out : List ℕ) → Ready place out → pixelCount header ≤ place .pixel + n
       → Reads (walking header wanted message from n place out) (remaining decoder header wanted message place) ((place .pixel - from) * wanted) out
   walk-reads zero place out ready enough = reads-none zero place out ready (omega arith)
-  walk-reads (suc n) place out ready enough = go (ltb (place .pixel) (pixelCount header)) refl
+  walk-reads (suc n) place out ready enough = go (walk-reads n) (ltb (place .pixel) (pixelCount header)) refl
     where
-      abbrev there : Found
+      there : Found
       there = chunkAt (decoderReadsRgba (channelsNumber (header .channels))) (drop (place .at) message)
 
-      on :
-          (f : Found) → there ≡ f → place .pixel < pixelCount header
-          → Reads (walking header wanted message from (suc n) place out) (remaining decoder header wanted message place) ((place .pixel - from) * wanted) out
-      on cut e missing = reads-cut n place out ready missing e
-      on (chunk k) e missing =
+      Goal : Type 0
+      Goal =
+          Reads (walking header wanted message from (suc n) place out) (remaining decoder header wanted message place) ((place .pixel - from) * wanted) out
+
+      Shorter : Type 0
+      Shorter =
+          (place′ : Place) (out′ : List ℕ) → Ready place′ out′ → pixelCount header ≤ place′ .pixel + n
+          → Reads (walking header wanted message from n place′ out′) (remaining decoder header wanted message place′) ((place′ .pixel - from) * wanted) out′
+
+      on : Shorter → (f : Found) → there ≡ f → place .pixel < pixelCount header → Goal
+      on shorter cut e missing = reads-cut n place out ready missing e
+      on shorter (chunk k) e missing =
           reads-more place out ready missing k e n
-          (walk-reads n (placeAfter decoder header wanted place k) (pasted ((place .pixel - from) * wanted) (bytesOf decoder header wanted place k) out)
+          (shorter (placeAfter decoder header wanted place k) (pasted ((place .pixel - from) * wanted) (bytesOf decoder header wanted place k) out)
           (ready-next place out ready missing k e) (omega (arith, further place out ready missing k e)))
 
-      go :
-          (b : Bool) → ltb (place .pixel) (pixelCount header) ≡ b
-          → Reads (walking header wanted message from (suc n) place out) (remaining decoder header wanted message place) ((place .pixel - from) * wanted) out
-      go true e = on there refl (ltb-true _ _ e)
-      go false e = reads-none (suc n) place out ready (ltb-false _ _ e)
+      go : Shorter → (b : Bool) → ltb (place .pixel) (pixelCount header) ≡ b → Goal
+      go shorter true e = on shorter there refl (ltb-true _ _ e)
+      go shorter false e = reads-none (suc n) place out ready (ltb-false _ _ e)
