@@ -2,8 +2,8 @@
 use mathlib.Core.Path.{_≡_, refl}
 use mathlib.Core.Bool.{Bool, true, false, cond, _&&_}
 use mathlib.Core.List.{List, _++_}
-use Prim.Native.Nat.{ℕ, _*_, _/_, _%_, _^_, _≤_, _<_}
-use native.Mathlib.Nat.{le-of-lt, lt-of-le-of-lt, mul-le-mul-left, mul-lt-mul-of-pos-right, mod-eq-of-lt, div-div-eq-div-mul}
+use Prim.Native.Nat.{ℕ, zero, suc, _*_, _/_, _%_, _^_, _≤_, _<_}
+use native.Mathlib.Nat.{zero-mul, mul-zero, mul-comm, le-mul-of-pos-right, le-of-lt, lt-of-le-of-lt, mul-le-mul-left, mul-lt-mul-of-pos-right, mod-eq-of-lt, div-div-eq-div-mul}
 use native.Mathlib.Omega.{arith}
 use lib.Dec.{T, ltb, leb, eqb, leb→le, lit<}
 use lib.ListN.{length, getD}
@@ -69,11 +69,23 @@ pub header-length : (h : Header) → length (headerBytes h) ≡ 14
 unfolding headerBytes
 header-length h = refl
 
--- what an accepted header is like: 1 to 400,000,000 pixels, fourteen bytes or more, and 32-bit dimensions if it was read from bytes
+-- two numbers whose product is not zero are at most the product
+sides : (a b : ℕ) → 1 ≤ a * b → (a ≤ a * b) × (b ≤ a * b)
+sides zero b some = absurd (omega (arith, zero-mul b))
+sides (suc a) zero some = absurd (omega (arith, mul-zero (suc a)))
+sides (suc a) (suc b) some =
+    (le-mul-of-pos-right (suc a) (omega arith), rw (mul-comm (suc a) (suc b)) (le-mul-of-pos-right (suc b) (omega arith)))
+
+-- dimensions that fit have 32 bits
+pub sides-fit : (h : Header) → T (dimensionsFit (h .width) (h .height)) → (h .width < 2 ^ 32) × (h .height < 2 ^ 32)
+sides-fit h t =
+    let some = sides (h .width) (h .height) (leb→le 1 (pixelCount h) (both (leb 1 (pixelCount h)) _ t .0)) in
+    (omega (arith, some .0, pixels-small h t), omega (arith, some .1, pixels-small h t))
+
+-- what an accepted header is like: 1 to 400,000,000 pixels, fourteen bytes or more
 pub record Accepted (bytes : List ℕ) (h : Header) : Type 0 where
   pub fit : T (dimensionsFit (h .width) (h .height))
   pub whole : 14 ≤ length bytes
-  pub narrow : ((i : ℕ) → getD bytes i 0 < 256) → (h .width < 2 ^ 32) × (h .height < 2 ^ 32)
 
 refused-is-not-ok : (e : Error) (h : Header) → Refused e ≡ Ok h → ⊥
 refused-is-not-ok e h p = let z : _≡_ {A = ℕ} 0 1 = cc in omega arith
@@ -88,43 +100,37 @@ failed : (b : Bool) (r : HeaderRead) (e : Error) (h : Header) → cond b (Refuse
 failed true r e h p = absurd (refused-is-not-ok e h p)
 failed false r e h p = (refl, p)
 
--- the header has these dimensions, and they fit
-Fitting : ℕ → ℕ → Header → Type 0
-Fitting width height h = T (dimensionsFit (h .width) (h .height)) × (h .width ≡ width) × (h .height ≡ height)
+-- the header's dimensions fit
+abbrev Fitting : Header → Type 0
+Fitting h = T (dimensionsFit (h .width) (h .height))
 
 from-fitting :
-    (width height : ℕ) (c : Channels) (s : ColorSpace) (h : Header) → headerFrom width height c s ≡ Ok h
-    → Fitting width height h
-unfolding headerFrom Fitting
+    (width height : ℕ) (c : Channels) (s : ColorSpace) (h : Header) → headerFrom width height c s ≡ Ok h → Fitting h
+unfolding headerFrom
 from-fitting width height c s h p =
     let made : Header = record { width = width; height = height; channels = c; colorspace = s } in
     let q = passed (dimensionsFit width height) (Ok made) _ h p in
     let same : made ≡ h = cc in
-    rw (← same) (q .0, refl, refl)
+    rw (← same) (q .0)
 
 module _ (bytes : List ℕ) (h : Header) where
-  after-color-space-fitting :
-      (c : Channels) (read : ColorSpaceRead) → afterColorSpace bytes c read ≡ Ok h
-      → Fitting (numberAt bytes 4) (numberAt bytes 8) h
+  after-color-space-fitting : (c : Channels) (read : ColorSpaceRead) → afterColorSpace bytes c read ≡ Ok h → Fitting h
   unfolding afterColorSpace
   after-color-space-fitting c (colorspace-read.Refused e) p = absurd (refused-is-not-ok e h p)
   after-color-space-fitting c (colorspace-read.Ok s) p =
       from-fitting _ _ c s h (passed (eqb (numberAt bytes 0) magicNumber) _ _ h p .1)
 
-  after-channels-fitting :
-      (read : ChannelsRead) → afterChannels bytes read ≡ Ok h → Fitting (numberAt bytes 4) (numberAt bytes 8) h
+  after-channels-fitting : (read : ChannelsRead) → afterChannels bytes read ≡ Ok h → Fitting h
   unfolding afterChannels
   after-channels-fitting (channels-read.Refused e) p = absurd (refused-is-not-ok e h p)
   after-channels-fitting (channels-read.Ok c) p = after-color-space-fitting c (colorSpaceFrom (getD bytes 13 0)) p
 
   -- a header that is read is an accepted one
   pub header-accepted : headerOf bytes ≡ Ok h → Accepted bytes h
-  unfolding headerOf Fitting
+  unfolding headerOf
   header-accepted p =
       let long = failed (ltb (length bytes) 14) _ _ h p in
-      let fitting = after-channels-fitting (channelsFrom (getD bytes 12 0)) (long .1) in
       record {
-        fit = fitting .0;
+        fit = after-channels-fitting (channelsFrom (getD bytes 12 0)) (long .1);
         whole = ltb-false _ _ (long .0);
-        narrow = λ small. (omega (arith, fitting .1, small 4, small 5, small 6, small 7), omega (arith, fitting .2, small 8, small 9, small 10, small 11));
       }

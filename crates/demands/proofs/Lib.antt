@@ -1,0 +1,2 @@
+-- The demands as theorems, and the laws behind them.
+pub mod Steps

@@ -1,0 +1,3 @@
+-- The demands as definitions: what the theorems of proofs/ say.
+pub mod TakeOver
+pub mod Workers

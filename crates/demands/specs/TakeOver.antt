@@ -1,0 +1,43 @@
+-- Demand 3, take-over: every history of starts, steps and take-ups on one message, and how each must end.
+use mathlib.Core.List.{List}
+use mathlib.Core.Path.{_≡_}
+use Prim.Native.Nat.{ℕ, _+_, _-_, _*_, _^_, _<_}
+use lib.ListN.{length, take}
+use Rattle.header.specs.Header.{pixelCount}
+use Rattle.rules.specs.Decode.{decoding, writtenOver}
+use Rattle.rules.specs.Step.{State, started, starting, more, step, steppedOver, Ran, going, ended, running}
+use Rattle.rules.specs.Record.{recordBytes, readRecord}
+
+-- how many bytes of the output stand before a state's pixel
+abbrev pub bytesBefore : State → ℕ
+bytesBefore s = s .place .pixel * s .wanted
+
+-- A history of message m at wanted w: the state, the output now, and the output as the last take-up, or the start, found it.
+-- No output is asked to be long enough: into one that is not, steps and the uncut decode answer the same 7.
+pub data Life (m : List ℕ) (w : ℕ) : State → List ℕ → List ℕ → Type 0 where
+  -- a start on any output; the message's length fits 64 bits, which the type of a slice says by itself
+  begun : {s : State} (o : List ℕ) → length m < 2 ^ 64 → starting m w ≡ started s → Life m w s o o
+  -- a step that goes on
+  stepped :
+      {s s′ : State} {o b bytes : List ℕ} → Life m w s o b → step s m (length o) ≡ more s′ bytes
+      → Life m w s′ (steppedOver s bytes o) b
+  -- a take-up of the record written of s, however long ago, on any output that holds before s's pixel what the one of that moment held
+  taken-up :
+      {s s′ : State} {o b : List ℕ} → Life m w s o b → (o′ : List ℕ)
+      → take (bytesBefore s) o′ ≡ take (bytesBefore s) o → readRecord (recordBytes s) ≡ started s′ → Life m w s′ o′ o′
+
+-- the pixels still missing plus one
+abbrev pub stepsLeft : State → ℕ
+stepsLeft s = pixelCount (s .header) - s .place .pixel + 1
+
+-- Within that many steps comes the end, with the uncut decode's answer; the output then holds every byte that the uncut decode writes,
+-- and after them what it held when it was taken up.
+abbrev pub EndsAsUncut : List ℕ → ℕ → State → List ℕ → List ℕ → Type 0
+EndsAsUncut m w s o b =
+    let uncut = decoding m w (length b) in
+    (last : State) × (running m (stepsLeft s) s o ≡ ended (uncut .answer) last (writtenOver (uncut .bytes) b))
+
+-- so many steps more, where a run has not ended
+abbrev pub runningOn : List ℕ → ℕ → Ran → Ran
+runningOn m k (going s o) = running m k s o
+runningOn m k (ended answer s o) = ended answer s o

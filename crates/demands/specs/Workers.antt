@@ -1,0 +1,37 @@
+-- Beyond demand 3: any number of workers at once on one output that only their steps write, in any order of their steps.
+use mathlib.Core.List.{List, [], _∷_, _++_}
+use mathlib.Core.Path.{_≡_}
+use Prim.Native.Nat.{ℕ, _^_, _≤_, _<_}
+use lib.ListN.{length, take}
+use Rattle.rules.specs.Reading.{Answer}
+use Rattle.rules.specs.Decode.{decoding, writtenOver}
+use Rattle.rules.specs.Step.{State, started, starting, more, end, step, steppedOver}
+use Rattle.rules.specs.Record.{recordBytes, readRecord}
+use Rattle.demands.specs.TakeOver.{bytesBefore}
+
+-- The workers on message m at wanted w, and the output now, which was o₀ at first. A worker that stops, or dies, stays in the list
+-- and steps no more; one that takes up an old record was in the list since that record was written, and stood still.
+pub data Crew (m : List ℕ) (w : ℕ) (o₀ : List ℕ) : List State → List ℕ → Type 0 where
+  -- no worker yet; the message's length fits 64 bits, which the type of a slice says by itself: nothing more is asked
+  nobody : length m < 2 ^ 64 → Crew m w o₀ [] o₀
+  -- one more starts
+  joins : {s : State} {ss : List State} {o : List ℕ} → Crew m w o₀ ss o → starting m w ≡ started s → Crew m w o₀ (s ∷ ss) o
+  -- one more takes up the record of a worker s, which stays
+  takes-up :
+      (left right : List State) (s : State) {s′ : State} {o : List ℕ} → Crew m w o₀ (left ++ (s ∷ right)) o
+      → readRecord (recordBytes s) ≡ started s′ → Crew m w o₀ (s′ ∷ (left ++ (s ∷ right))) o
+  -- one of them makes a step
+  steps :
+      (left right : List State) (s : State) {s′ : State} {o bytes : List ℕ} → Crew m w o₀ (left ++ (s ∷ right)) o
+      → step s m (length o) ≡ more s′ bytes → Crew m w o₀ (left ++ (s′ ∷ right)) (steppedOver s bytes o)
+
+-- what holds of each worker s whenever the output is o
+pub record Undisturbed (m : List ℕ) (w : ℕ) (o₀ : List ℕ) (s : State) (o : List ℕ) : Type 0 where
+  -- the uncut decode writes all the bytes before its pixel,
+  pub reaches : bytesBefore s ≤ length (decoding m w (length o₀) .bytes)
+  -- and they stand in the output
+  pub stand : take (bytesBefore s) o ≡ take (bytesBefore s) (decoding m w (length o₀) .bytes)
+  -- its end is the uncut decode's, with the right output
+  pub ends :
+      (answer : Answer) → step s m (length o) ≡ end answer
+      → (answer ≡ decoding m w (length o₀) .answer) × (o ≡ writtenOver (decoding m w (length o₀) .bytes) o₀)
