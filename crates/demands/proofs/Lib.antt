@@ -1,2 +1,5 @@
 -- The demands as theorems, and the laws behind them.
 pub mod Steps
+pub mod Way
+pub mod Held
+pub mod TakeOver

@@ -1,20 +1,20 @@
 -- Laws of steps and runs, of every state: what kinds of step there are, what a step keeps, that an end stays the end, and that runs add up.
 -- Assumes nothing.
-use mathlib.Core.Path.{_≡_, refl, sym, _∙_, ap}
+use mathlib.Core.Path.{_≡_, refl, ap}
 use mathlib.Core.Bool.{Bool, true, false, cond}
 use mathlib.Core.List.{List}
-use Prim.Native.Nat.{ℕ, zero, suc, _+_, _*_, _≤_, _<_}
+use Prim.Native.Nat.{ℕ, zero, suc, _+_, _≤_, _<_}
 use native.Mathlib.Nat.{zero-add, suc-add, mul-le-mul-right}
 use native.Mathlib.Omega.{arith}
 use borrow.Author.Tests.{ltb-true, ltb-false}
-use lib.Dec.{T, ltb}
+use lib.Dec.{ltb}
 use lib.ListN.{length, take, drop}
 use Rattle.pixel.specs.declared.error.Error.the-variants.{BadState, OutputBufferTooSmall}
 use Rattle.header.specs.Header.{pixelCount}
 use Rattle.rules.specs.Chunk.{Chunk}
 use Rattle.rules.specs.Reading.{Answer, refused, Move, sizeWanted, placeAfter, bytesOf, move}
 use Rattle.rules.specs.Decode.{decoder}
-use Rattle.rules.specs.Step.{State, wellFormed, Step, more, end, stepBy, step, steppedOver, Ran, going, ended, runOn, running}
+use Rattle.rules.specs.Step.{State, wellFormed, Step, more, end, stepBy, step, steppedOver, ended, runOn, running}
 use Rattle.rules.proofs.ChunkLaws.{Sound}
 use Rattle.rules.proofs.PastingLaws.{before-pasted}
 use Rattle.rules.proofs.ReadingLaws.{Moved, moved}

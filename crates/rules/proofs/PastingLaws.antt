@@ -2,11 +2,11 @@
 -- Assumes nothing.
 use mathlib.Core.Path.{_≡_, sym}
 use mathlib.Core.List.{List, _++_, append-assoc}
-use Prim.Native.Nat.{ℕ, zero, suc, _+_, _*_, _≤_}
+use Prim.Native.Nat.{ℕ, zero, suc, _+_, _-_, _*_, _≤_}
 use native.Mathlib.Nat.{suc-mul, zero-mul}
 use native.Mathlib.Omega.{arith}
 use lib.ListN.{length, take, drop, length-append, length-take, length-drop}
-use lib.Seq.{length-take-le, take-at, drop-at}
+use lib.Seq.{length-take-le, take-at, drop-at, drop-drop}
 use Rattle.rules.specs.Reading.{pasted, repeated}
 
 -- what stands before the place is kept
@@ -25,6 +25,12 @@ module _ (out : List ℕ) (at : ℕ) (bytes : List ℕ) (fits : at + length byte
   -- and after it
   pub drop-pasted : drop (at + length bytes) (pasted at bytes out) ≡ drop (at + length bytes) out
   drop-pasted = rw (← append-assoc) (drop-at (take at out ++ bytes) (drop (at + length bytes) out) (at + length bytes) head-length)
+
+  -- and from any later place on
+  pub beyond-pasted : (e : ℕ) → at + length bytes ≤ e → drop e (pasted at bytes out) ≡ drop e out
+  beyond-pasted e later =
+      let rest : at + length bytes + (e - (at + length bytes)) ≡ e = omega arith in
+      rw (← rest, ← drop-drop (e - (at + length bytes)) (at + length bytes) (pasted at bytes out), ← drop-drop (e - (at + length bytes)) (at + length bytes) out, drop-pasted)
 
   -- its length is kept
   pub length-pasted : length (pasted at bytes out) ≡ length out

@@ -1,0 +1,98 @@
+-- Demand 3, take-over, proved: however often a decode is cut and taken up again, it ends as the uncut one.
+-- Assumes nothing.
+use mathlib.Core.Path.{_≡_, refl, sym, _∙_, ap}
+use mathlib.Core.List.{List}
+use Prim.Native.Nat.{ℕ, zero, suc, _+_, _^_, _≤_, _<_}
+use native.Mathlib.Omega.{arith}
+use lib.Dec.{T}
+use lib.ListN.{length, take}
+use Rattle.header.specs.Header.{pixelCount}
+use Rattle.rules.specs.Decode.{decoding, writtenOver}
+use Rattle.rules.specs.Step.{State, Typed, wellFormed, started, starting, Step, more, end, step, steppedOver, going, ended, runOn, running}
+use Rattle.rules.specs.Record.{recordBytes, readRecord}
+use Rattle.rules.proofs.RecordLaws.{record-read-back}
+use Rattle.demands.specs.TakeOver.{bytesBefore, Life, begun, stepped, taken-up, stepsLeft, EndsAsUncut}
+use Rattle.demands.proofs.Way.{OnWay, within, starts-on-way, starts-at-none}
+use Rattle.demands.proofs.Held.{Held, ends-as-uncut, goes-as-uncut}
+
+-- a record of a state on the way is read back
+pub readable : {m : List ℕ} {w : ℕ} (s : State) → OnWay m w s → readRecord (recordBytes s) ≡ started s
+readable s on = record-read-back s (on .typed) (on .well)
+
+-- the state of a history is on the uncut decode's way, and its output holds what it must
+record Lived (m : List ℕ) (w : ℕ) (s : State) (o b : List ℕ) : Type 0 where
+  on-way : OnWay m w s
+  holds : Held m w b o s
+
+lived-begun :
+    (m : List ℕ) (w : ℕ) (s : State) (o : List ℕ) → length m < 2 ^ 64 → starting m w ≡ started s → Lived m w s o o
+lived-begun m w s o small e =
+    record {
+      on-way = starts-on-way m w s small e;
+      holds = record { same-length = refl; before = rw (starts-at-none m w s e); beyond = refl; short = λ few. refl };
+    }
+
+lived-stepped :
+    (m : List ℕ) (w : ℕ) (s s′ : State) (o b bytes : List ℕ) → Lived m w s o b → step s m (length o) ≡ more s′ bytes
+    → Lived m w s′ (steppedOver s bytes o) b
+lived-stepped m w s s′ o b bytes l e =
+    let next = goes-as-uncut m w b o s (l .on-way) (l .holds) s′ bytes e in
+    record { on-way = next .on-way; holds = next .holds }
+
+lived-taken-up :
+    (m : List ℕ) (w : ℕ) (s s′ : State) (o b o′ : List ℕ) → Lived m w s o b → take (bytesBefore s) o′ ≡ take (bytesBefore s) o
+    → readRecord (recordBytes s) ≡ started s′ → Lived m w s′ o′ o′
+lived-taken-up m w s s′ o b o′ l agrees e =
+    let same : s ≡ s′ = cc (readable s (l .on-way)) in
+    rw (← same)
+    (record {
+      on-way = l .on-way;
+      holds = record { same-length = refl; before = agrees ∙ l .holds .before; beyond = refl; short = λ few. refl };
+    })
+
+lived : {m : List ℕ} {w : ℕ} {s : State} {o b : List ℕ} → Life m w s o b → Lived m w s o b
+lived {m} {w} (begun {s} o small e) = lived-begun m w s o small e
+lived {m} {w} (stepped {s} {s′} {o} {b} {bytes} life e) = lived-stepped m w s s′ o b bytes (lived life) e
+lived {m} {w} (taken-up {s} {s′} {o} {b} life o′ agrees e) = lived-taken-up m w s s′ o b o′ (lived life) agrees e
+
+-- every state that a history reaches is well formed, and its parts fit their types
+pub reached-well-formed : {m : List ℕ} {w : ℕ} {s : State} {o b : List ℕ} → Life m w s o b → T (wellFormed s) × Typed s
+reached-well-formed life = let on = lived life .on-way in (on .well, on .typed)
+
+-- every record that it writes can be read, and gives its state
+pub reached-readable :
+    {m : List ℕ} {w : ℕ} {s : State} {o b : List ℕ} → Life m w s o b → readRecord (recordBytes s) ≡ started s
+reached-readable {s = s} life = readable s (lived life .on-way)
+
+module _ (m : List ℕ) (w : ℕ) where
+  -- a run of more steps than pixels are missing ends, as the uncut decode
+  ends-within :
+      (n : ℕ) (s : State) (o b : List ℕ) → OnWay m w s → Held m w b o s → pixelCount (s .header) < s .place .pixel + n
+      → (last : State)
+      × (running m n s o ≡ ended (decoding m w (length b) .answer) last (writtenOver (decoding m w (length b) .bytes) b))
+  unfolding running
+  ends-within zero s o b on held few = absurd (omega (arith, within m w s on))
+  ends-within (suc n) s o b on held few =
+      go
+      (λ s′ bytes e.
+      let next = goes-as-uncut m w b o s on held s′ bytes e in
+      ends-within n s′ (steppedOver s bytes o) b (next .on-way) (next .holds) (omega (arith, next .further, next .same-picture)))
+      (step s m (length o)) refl
+    where
+      go :
+          ((s′ : State) (bytes : List ℕ) → step s m (length o) ≡ more s′ bytes
+          → (last : State)
+          × (running m n s′ (steppedOver s bytes o) ≡ ended (decoding m w (length b) .answer) last (writtenOver (decoding m w (length b) .bytes) b)))
+          → (v : Step) → step s m (length o) ≡ v
+          → (last : State)
+          × (runOn (running m n) s o v ≡ ended (decoding m w (length b) .answer) last (writtenOver (decoding m w (length b) .bytes) b))
+      go further (more s′ bytes) e = further s′ bytes e
+      go further (end answer) e =
+          let uncut = ends-as-uncut m w b o s on held answer e in
+          (s, rw (← uncut .0, ← uncut .1))
+
+-- from every history the end comes within the pixels still missing plus one steps, with the uncut decode's answer and output
+pub take-over : {m : List ℕ} {w : ℕ} {s : State} {o b : List ℕ} → Life m w s o b → EndsAsUncut m w s o b
+take-over {m} {w} {s} {o} {b} life =
+    let l = lived life in
+    ends-within m w (stepsLeft s) s o b (l .on-way) (l .holds) (omega arith)
