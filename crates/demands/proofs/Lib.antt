@@ -3,3 +3,4 @@ pub mod Steps
 pub mod Way
 pub mod Held
 pub mod TakeOver
+pub mod Workers

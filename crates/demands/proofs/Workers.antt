@@ -1,0 +1,127 @@
+-- Any number of workers at once on one output, proved: none disturbs another, and each ends as the uncut decode.
+-- Assumes nothing.
+use mathlib.Core.Path.{_≡_, refl, sym, _∙_, ap}
+use mathlib.Core.List.{List, [], _∷_, _++_}
+use Prim.Native.Nat.{ℕ, _^_, _≤_, _<_, zero-le}
+use native.Mathlib.Nat.{lt-of-not-le}
+use native.Mathlib.Decide.{decLe}
+use native.Mathlib.Omega.{arith}
+use lib.ListN.{length, take, drop}
+use Rattle.rules.specs.Step.{State, started, starting, more, step, steppedOver}
+use Rattle.rules.specs.Record.{recordBytes, readRecord}
+use Rattle.demands.specs.TakeOver.{bytesBefore}
+use Rattle.demands.specs.Workers.{Crew, nobody, joins, takes-up, steps, Undisturbed}
+use Rattle.demands.proofs.Steps.{needed}
+use Rattle.demands.proofs.Way.{OnWay, starts-on-way, starts-at-none, uncut-whole, uncut-short}
+use Rattle.demands.proofs.Held.{Held, Onward, ends-as-uncut, goes-as-uncut}
+use Rattle.demands.proofs.TakeOver.{readable}
+
+-- each of some states
+abbrev All : (State → Type 0) → List State → Type 0
+All P [] = Unit {0}
+All P (s ∷ ss) = P s × All P ss
+
+-- one of them
+all-at : (P : State → Type 0) (left right : List State) (s : State) → All P (left ++ (s ∷ right)) → P s
+all-at P [] right s all = all .0
+all-at P (x ∷ left) right s all = all-at P left right s (all .1)
+
+-- all of them, by what each has
+all-map : (P Q : State → Type 0) → ((s : State) → P s → Q s) → (ss : List State) → All P ss → All Q ss
+all-map P Q f [] all = tt
+all-map P Q f (s ∷ ss) all = (f s (all .0), all-map P Q f ss (all .1))
+
+-- all of them, with another in the place of one
+all-but :
+    (P : State → Type 0) (left right : List State) (s s′ : State) → P s′ → All P (left ++ (s ∷ right)) → All P (left ++ (s′ ∷ right))
+all-but P [] right s s′ new all = (new, all .1)
+all-but P (x ∷ left) right s s′ new all = (all .0, all-but P left right s s′ new (all .1))
+
+-- a worker on the uncut decode's way, with the output that it shares
+record Working (m : List ℕ) (w : ℕ) (o₀ o : List ℕ) (s : State) : Type 0 where
+  on-way : OnWay m w s
+  holds : Held m w o₀ o s
+  -- where there is no room it has not stepped
+  idle : length o₀ < needed s → bytesBefore s ≡ 0
+
+-- a crew: each of its workers, and any that starts now
+record Manned (m : List ℕ) (w : ℕ) (o₀ : List ℕ) (ss : List State) (o : List ℕ) : Type 0 where
+  small : length m < 2 ^ 64
+  welcome : (t : State) → OnWay m w t → bytesBefore t ≡ 0 → Held m w o₀ o t
+  each : All (Working m w o₀ o) ss
+
+module _ (m : List ℕ) (w : ℕ) (o₀ : List ℕ) where
+  manned-nobody : length m < 2 ^ 64 → Manned m w o₀ [] o₀
+  manned-nobody small =
+      record {
+        small = small;
+        welcome = λ t on none. record { same-length = refl; before = rw none; beyond = refl; short = λ few. refl };
+        each = tt;
+      }
+
+  manned-joins : (s : State) (ss : List State) (o : List ℕ) → Manned m w o₀ ss o → starting m w ≡ started s → Manned m w o₀ (s ∷ ss) o
+  manned-joins s ss o crew e =
+      let on = starts-on-way m w s (crew .small) e in
+      let none = starts-at-none m w s e in
+      record {
+        small = crew .small;
+        welcome = crew .welcome;
+        each = (record { on-way = on; holds = crew .welcome s on none; idle = λ few. none }, crew .each);
+      }
+
+  module _ (left right : List State) (s : State) (o : List ℕ) (crew : Manned m w o₀ (left ++ (s ∷ right)) o) where
+    worker : Working m w o₀ o s
+    worker = all-at (Working m w o₀ o) left right s (crew .each)
+
+    manned-takes-up : (s′ : State) → readRecord (recordBytes s) ≡ started s′ → Manned m w o₀ (s′ ∷ (left ++ (s ∷ right))) o
+    manned-takes-up s′ e =
+        let same : s ≡ s′ = cc (readable s (worker .on-way)) in
+        record { small = crew .small; welcome = crew .welcome; each = (rw (← same) worker, crew .each) }
+
+    manned-steps :
+        (s′ : State) (bytes : List ℕ) → step s m (length o) ≡ more s′ bytes
+        → Manned m w o₀ (left ++ (s′ ∷ right)) (steppedOver s bytes o)
+    manned-steps s′ bytes e =
+        let next = goes-as-uncut m w o₀ o s (worker .on-way) (worker .holds) s′ bytes e in
+        record {
+          small = crew .small;
+          welcome = λ t on none. next .others t on (crew .welcome t on none);
+          each =
+              all-but (Working m w o₀ (steppedOver s bytes o)) left right s s′
+              (record { on-way = next .on-way; holds = next .holds; idle = λ few. absurd (omega (arith, next .roomy)) })
+              (all-map (Working m w o₀ o) (Working m w o₀ (steppedOver s bytes o))
+              (λ t a. record { on-way = a .on-way; holds = next .others t (a .on-way) (a .holds); idle = a .idle })
+              (left ++ (s ∷ right)) (crew .each));
+        }
+
+manned : {m : List ℕ} {w : ℕ} {o₀ : List ℕ} {ss : List State} {o : List ℕ} → Crew m w o₀ ss o → Manned m w o₀ ss o
+manned {m} {w} {o₀} (nobody small) = manned-nobody m w o₀ small
+manned {m} {w} {o₀} (joins {s} {ss} {o} crew e) = manned-joins m w o₀ s ss o (manned crew) e
+manned {m} {w} {o₀} (takes-up left right s {s′} {o} crew e) = manned-takes-up m w o₀ left right s o (manned crew) s′ e
+manned {m} {w} {o₀} (steps left right s {s′} {o} {bytes} crew e) = manned-steps m w o₀ left right s o (manned crew) s′ bytes e
+
+-- what holds of a worker, with room and without
+undisturbed : (m : List ℕ) (w : ℕ) (o₀ o : List ℕ) (s : State) → Working m w o₀ o s → Undisturbed m w o₀ s o
+undisturbed m w o₀ o s a = go (decLe (needed s) (length o₀))
+  where
+    go : Dec (needed s ≤ length o₀) → Undisturbed m w o₀ s o
+    go (yes fits) =
+        let uncut = uncut-whole m w s (a .on-way) (length o₀) fits in
+        record {
+          reaches = rw uncut (a .on-way .reaches);
+          stand = rw uncut (a .holds .before);
+          ends = ends-as-uncut m w o₀ o s (a .on-way) (a .holds);
+        }
+    go (no lacks) =
+        let none = a .idle (lt-of-not-le lacks) in
+        record {
+          reaches = rw none zero-le;
+          stand = rw none;
+          ends = ends-as-uncut m w o₀ o s (a .on-way) (a .holds);
+        }
+
+-- in every order of the workers' steps, each worker finds the uncut decode's bytes before its pixel, and ends as the uncut decode
+pub workers :
+    {m : List ℕ} {w : ℕ} {o₀ o : List ℕ} (left right : List State) (s : State) → Crew m w o₀ (left ++ (s ∷ right)) o
+    → Undisturbed m w o₀ s o
+workers {m} {w} {o₀} {o} left right s crew = undisturbed m w o₀ o s (worker m w o₀ left right s o (manned crew))
