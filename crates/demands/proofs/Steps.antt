@@ -1,14 +1,15 @@
 -- Laws of steps and runs, of every state: what kinds of step there are, what a step keeps, that an end stays the end, and that runs add up.
 -- Assumes nothing.
-use mathlib.Core.Path.{_≡_, refl, ap}
+use mathlib.Core.Path.{_≡_, refl, sym, _∙_, ap}
 use mathlib.Core.Bool.{Bool, true, false, cond}
 use mathlib.Core.List.{List}
 use Prim.Native.Nat.{ℕ, zero, suc, _+_, _≤_, _<_}
-use native.Mathlib.Nat.{zero-add, suc-add, mul-le-mul-right}
+use native.Mathlib.Nat.{zero-add, suc-add, le-of-lt, mul-le-mul-right}
 use native.Mathlib.Omega.{arith}
 use borrow.Author.Tests.{ltb-true, ltb-false}
 use lib.Dec.{ltb}
 use lib.ListN.{length, take, drop}
+use lib.Seq.{take-take}
 use Rattle.pixel.specs.declared.error.Error.the-variants.{BadState, OutputBufferTooSmall}
 use Rattle.header.specs.Header.{pixelCount}
 use Rattle.rules.specs.Chunk.{Chunk}
@@ -17,8 +18,8 @@ use Rattle.rules.specs.Decode.{decoder}
 use Rattle.rules.specs.Step.{State, wellFormed, Step, more, end, stepBy, step, steppedOver, ended, runOn, running}
 use Rattle.rules.proofs.ChunkLaws.{Sound}
 use Rattle.rules.proofs.PastingLaws.{before-pasted}
-use Rattle.rules.proofs.ReadingLaws.{Moved, moved}
-use Rattle.demands.specs.TakeOver.{bytesBefore, runningOn}
+use Rattle.rules.proofs.ReadingLaws.{Moved, moved, advances}
+use Rattle.demands.specs.TakeOver.{bytesBefore, runningOn, outputOf}
 
 -- the state after a chunk
 abbrev pub nextState : State → Chunk → State
@@ -79,18 +80,39 @@ module _ (m : List ℕ) (s : State) (room : ℕ) where
 pub end-is-not-more : {answer : Answer} {s : State} {bytes : List ℕ} → end answer ≡ more s bytes → ⊥
 end-is-not-more p = let z : _≡_ {A = ℕ} 0 1 = cc in omega arith
 
+-- a step that goes on brings its pixel further, for the same wanted channels
+pub step-goes-further :
+    (m : List ℕ) (s : State) (room : ℕ) (s′ : State) (bytes : List ℕ) → step s m room ≡ more s′ bytes
+    → bytesBefore s ≤ bytesBefore s′
+step-goes-further m s room s′ bytes e = go (step s m room) (kind m s room) e
+  where
+    go : (v : Step) → Kind m s room v → v ≡ more s′ bytes → bytesBefore s ≤ bytesBefore s′
+    go v (not-well bad) is = absurd (end-is-not-more is)
+    go v (no-room short) is = absurd (end-is-not-more is)
+    go v (at-end answer fits last) is = absurd (end-is-not-more is)
+    go v (by-chunk k fits sound missing moves) is =
+        let next : nextState s k ≡ s′ = cc in
+        rw (← next)
+        (mul-le-mul-right (s .wanted) (le-of-lt (advances decoder (s .header) (s .wanted) (s .place) k (sound .once) missing)))
+
 -- a step never changes a byte before its pixel
 pub step-keeps-before :
-    (m : List ℕ) (s : State) (o : List ℕ) {s′ : State} {bytes : List ℕ} → step s m (length o) ≡ more s′ bytes
+    (m : List ℕ) (s : State) (o : List ℕ) (s′ : State) (bytes : List ℕ) → step s m (length o) ≡ more s′ bytes
     → take (bytesBefore s) (steppedOver s bytes o) ≡ take (bytesBefore s) o
-step-keeps-before m s o {s′} {bytes} e = go (step s m (length o)) (kind m s (length o)) e
+step-keeps-before m s o s′ bytes e = go (step s m (length o)) (kind m s (length o)) e
   where
-    go : (v : Step) → Kind m s (length o) v → v ≡ more s′ bytes → take (bytesBefore s) (steppedOver s bytes o) ≡ take (bytesBefore s) o
+    go :
+        (v : Step) → Kind m s (length o) v → v ≡ more s′ bytes
+        → take (bytesBefore s) (steppedOver s bytes o) ≡ take (bytesBefore s) o
     go v (not-well bad) is = absurd (end-is-not-more is)
     go v (no-room short) is = absurd (end-is-not-more is)
     go v (at-end answer fits last) is = absurd (end-is-not-more is)
     go v (by-chunk k fits sound missing moves) is =
         before-pasted o (bytesBefore s) bytes (omega (arith, mul-le-mul-right (s .wanted) missing))
+
+-- what agrees so far agrees less far
+kept-within : (n k : ℕ) (a b : List ℕ) → n ≤ k → take k a ≡ take k b → take n a ≡ take n b
+kept-within n k a b less same = sym (take-take n k a less) ∙ ap (take n) same ∙ take-take n k b less
 
 module _ (m : List ℕ) where
   -- a step that ends changes neither state nor output, and however many steps are allowed it is the end
@@ -132,3 +154,20 @@ module _ (m : List ℕ) where
           → (v : Step) → runOn (running m (n + k)) s o v ≡ runningOn m k (runOn (running m n) s o v)
       go adds (more s′ bytes) = adds s′ (steppedOver s bytes o)
       go adds (end answer) = refl
+
+  -- a run never changes a byte before the pixel that it began at
+  pub run-keeps-before :
+      (n : ℕ) (s : State) (o : List ℕ) → take (bytesBefore s) (outputOf (running m n s o)) ≡ take (bytesBefore s) o
+  unfolding running
+  run-keeps-before zero s o = refl
+  run-keeps-before (suc n) s o = go (run-keeps-before n) (step s m (length o)) refl
+    where
+      go :
+          ((s′ : State) (o′ : List ℕ) → take (bytesBefore s′) (outputOf (running m n s′ o′)) ≡ take (bytesBefore s′) o′)
+          → (v : Step) → step s m (length o) ≡ v
+          → take (bytesBefore s) (outputOf (runOn (running m n) s o v)) ≡ take (bytesBefore s) o
+      go keeps (more s′ bytes) e =
+          kept-within (bytesBefore s) (bytesBefore s′) (outputOf (running m n s′ (steppedOver s bytes o))) (steppedOver s bytes o)
+          (step-goes-further m s (length o) s′ bytes e) (keeps s′ (steppedOver s bytes o))
+          ∙ step-keeps-before m s o s′ bytes e
+      go keeps (end answer) e = refl

@@ -1,17 +1,20 @@
 -- Demand 3, take-over, proved: however often a decode is cut and taken up again, it ends as the uncut one.
 -- Assumes nothing.
-use mathlib.Core.Path.{_≡_, refl, sym, _∙_, ap}
+use mathlib.Core.Path.{_≡_, refl, _∙_, ap}
 use mathlib.Core.List.{List}
-use Prim.Native.Nat.{ℕ, zero, suc, _+_, _^_, _≤_, _<_}
+use Prim.Native.Nat.{ℕ, zero, suc, _+_, _^_, _<_}
+use native.Mathlib.Nat.{add-comm}
 use native.Mathlib.Omega.{arith}
 use lib.Dec.{T}
 use lib.ListN.{length, take}
 use Rattle.header.specs.Header.{pixelCount}
+use Rattle.rules.specs.Reading.{Answer}
 use Rattle.rules.specs.Decode.{decoding, writtenOver}
 use Rattle.rules.specs.Step.{State, Typed, wellFormed, started, starting, Step, more, end, step, steppedOver, going, ended, runOn, running}
 use Rattle.rules.specs.Record.{recordBytes, readRecord}
 use Rattle.rules.proofs.RecordLaws.{record-read-back}
-use Rattle.demands.specs.TakeOver.{bytesBefore, Life, begun, stepped, taken-up, stepsLeft, EndsAsUncut}
+use Rattle.demands.specs.TakeOver.{bytesBefore, Life, begun, stepped, taken-up, stepsLeft, EndsAsUncut, runningOn, outputOf}
+use Rattle.demands.proofs.Steps.{run-adds, run-keeps-before}
 use Rattle.demands.proofs.Way.{OnWay, within, starts-on-way, starts-at-none}
 use Rattle.demands.proofs.Held.{Held, ends-as-uncut, goes-as-uncut}
 
@@ -96,3 +99,43 @@ pub take-over : {m : List ℕ} {w : ℕ} {s : State} {o b : List ℕ} → Life m
 take-over {m} {w} {s} {o} {b} life =
     let l = lived life in
     ends-within m w (stepsLeft s) s o b (l .on-way) (l .holds) (omega arith)
+
+-- a run that has more to do leads a history on
+pub run-lives :
+    {m : List ℕ} {w : ℕ} (n : ℕ) {s : State} {o b : List ℕ} → Life m w s o b
+    → (s′ : State) (o′ : List ℕ) → running m n s o ≡ going s′ o′ → Life m w s′ o′ b
+unfolding running
+run-lives zero {s} {o} life s′ o′ e =
+    let same : s ≡ s′ = cc in
+    let kept : o ≡ o′ = cc in
+    rw (← same, ← kept) life
+run-lives {m} {w} (suc n) {s} {o} {b} life s′ o′ e =
+    go (λ t bytes is e′. run-lives n (stepped life is) s′ o′ e′) (step s m (length o)) refl e
+  where
+    go :
+        ((t : State) (bytes : List ℕ) → step s m (length o) ≡ more t bytes → running m n t (steppedOver s bytes o) ≡ going s′ o′
+        → Life m w s′ o′ b)
+        → (v : Step) → step s m (length o) ≡ v → runOn (running m n) s o v ≡ going s′ o′ → Life m w s′ o′ b
+    go on (more t bytes) is e = on t bytes is e
+    go on (end answer) is e = absurd (let z : _≡_ {A = ℕ} 0 1 = cc in omega arith)
+
+-- however many steps a run is given, where it ends it ends as the uncut decode
+pub run-ends-as-uncut :
+    {m : List ℕ} {w : ℕ} {s : State} {o b : List ℕ} → Life m w s o b
+    → (n : ℕ) (answer : Answer) (last : State) (left : List ℕ) → running m n s o ≡ ended answer last left
+    → (answer ≡ decoding m w (length b) .answer) × (left ≡ writtenOver (decoding m w (length b) .bytes) b)
+run-ends-as-uncut {m} {w} {s} {o} {b} life n answer last left e =
+    let over = take-over life in
+    let one : running m (n + stepsLeft s) s o ≡ ended answer last left =
+    run-adds m n (stepsLeft s) s o ∙ ap (runningOn m (stepsLeft s)) e in
+    let other : running m (stepsLeft s + n) s o ≡ ended (decoding m w (length b) .answer) (over .0) (writtenOver (decoding m w (length b) .bytes) b) =
+    run-adds m (stepsLeft s) n s o ∙ ap (runningOn m n) (over .1) in
+    let same : running m (n + stepsLeft s) s o ≡ running m (stepsLeft s + n) s o = rw (add-comm n (stepsLeft s)) in
+    (cc, cc)
+
+-- a worker goes on from a checkpoint and dies after any number of steps: the checkpoint is taken up again on what it left
+pub left-behind :
+    {m : List ℕ} {w : ℕ} {s : State} {o b : List ℕ} → Life m w s o b → (n : ℕ)
+    → Life m w s (outputOf (running m n s o)) (outputOf (running m n s o))
+left-behind {m} {w} {s} {o} life n =
+    taken-up life (outputOf (running m n s o)) (run-keeps-before m n s o) (reached-readable life)

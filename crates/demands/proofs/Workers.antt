@@ -1,19 +1,20 @@
 -- Any number of workers at once on one output, proved: none disturbs another, and each ends as the uncut decode.
 -- Assumes nothing.
-use mathlib.Core.Path.{_≡_, refl, sym, _∙_, ap}
+use mathlib.Core.Path.{_≡_, refl}
 use mathlib.Core.List.{List, [], _∷_, _++_}
 use Prim.Native.Nat.{ℕ, _^_, _≤_, _<_, zero-le}
 use native.Mathlib.Nat.{lt-of-not-le}
 use native.Mathlib.Decide.{decLe}
 use native.Mathlib.Omega.{arith}
-use lib.ListN.{length, take, drop}
+use lib.ListN.{length, take}
+use Rattle.rules.specs.Decode.{decoding}
 use Rattle.rules.specs.Step.{State, started, starting, more, step, steppedOver}
 use Rattle.rules.specs.Record.{recordBytes, readRecord}
 use Rattle.demands.specs.TakeOver.{bytesBefore}
 use Rattle.demands.specs.Workers.{Crew, nobody, joins, takes-up, steps, Undisturbed}
 use Rattle.demands.proofs.Steps.{needed}
-use Rattle.demands.proofs.Way.{OnWay, starts-on-way, starts-at-none, uncut-whole, uncut-short}
-use Rattle.demands.proofs.Held.{Held, Onward, ends-as-uncut, goes-as-uncut}
+use Rattle.demands.proofs.Way.{OnWay, starts-on-way, starts-at-none, within, uncut-whole}
+use Rattle.demands.proofs.Held.{Held, ends-as-uncut, goes-as-uncut}
 use Rattle.demands.proofs.TakeOver.{readable}
 
 -- each of some states
@@ -100,25 +101,32 @@ manned {m} {w} {o₀} (joins {s} {ss} {o} crew e) = manned-joins m w o₀ s ss o
 manned {m} {w} {o₀} (takes-up left right s {s′} {o} crew e) = manned-takes-up m w o₀ left right s o (manned crew) s′ e
 manned {m} {w} {o₀} (steps left right s {s′} {o} {bytes} crew e) = manned-steps m w o₀ left right s o (manned crew) s′ bytes e
 
--- what holds of a worker, with room and without
-undisturbed : (m : List ℕ) (w : ℕ) (o₀ o : List ℕ) (s : State) → Working m w o₀ o s → Undisturbed m w o₀ s o
-undisturbed m w o₀ o s a = go (decLe (needed s) (length o₀))
+-- what the uncut decode writes, with room and without
+reaches-uncut :
+    (m : List ℕ) (w : ℕ) (o₀ o : List ℕ) (s : State) → Working m w o₀ o s
+    → (bytesBefore s ≤ length (decoding m w (length o₀) .bytes))
+    × (take (bytesBefore s) o ≡ take (bytesBefore s) (decoding m w (length o₀) .bytes))
+reaches-uncut m w o₀ o s a = go (decLe (needed s) (length o₀))
   where
-    go : Dec (needed s ≤ length o₀) → Undisturbed m w o₀ s o
-    go (yes fits) =
-        let uncut = uncut-whole m w s (a .on-way) (length o₀) fits in
-        record {
-          reaches = rw uncut (a .on-way .reaches);
-          stand = rw uncut (a .holds .before);
-          ends = ends-as-uncut m w o₀ o s (a .on-way) (a .holds);
-        }
-    go (no lacks) =
-        let none = a .idle (lt-of-not-le lacks) in
-        record {
-          reaches = rw none zero-le;
-          stand = rw none;
-          ends = ends-as-uncut m w o₀ o s (a .on-way) (a .holds);
-        }
+    go :
+        Dec (needed s ≤ length o₀)
+        → (bytesBefore s ≤ length (decoding m w (length o₀) .bytes))
+        × (take (bytesBefore s) o ≡ take (bytesBefore s) (decoding m w (length o₀) .bytes))
+    go (yes fits) = rw (uncut-whole m w s (a .on-way) (length o₀) fits) (a .on-way .reaches, a .holds .before)
+    go (no lacks) = rw (a .idle (lt-of-not-le lacks)) (zero-le, refl)
+
+-- a worker is undisturbed
+undisturbed : (m : List ℕ) (w : ℕ) (o₀ o : List ℕ) (s : State) → Working m w o₀ o s → Undisturbed m w o₀ s o
+undisturbed m w o₀ o s a =
+    let before = reaches-uncut m w o₀ o s a in
+    record {
+      same-length = a .holds .same-length;
+      reaches = before .0;
+      stand = before .1;
+      within = within m w s (a .on-way);
+      further = λ s′ bytes e. goes-as-uncut m w o₀ o s (a .on-way) (a .holds) s′ bytes e .further;
+      ends = ends-as-uncut m w o₀ o s (a .on-way) (a .holds);
+    }
 
 -- in every order of the workers' steps, each worker finds the uncut decode's bytes before its pixel, and ends as the uncut decode
 pub workers :

@@ -3,6 +3,7 @@ use mathlib.Core.List.{List, [], _∷_, _++_}
 use mathlib.Core.Path.{_≡_}
 use Prim.Native.Nat.{ℕ, _^_, _≤_, _<_}
 use lib.ListN.{length, take}
+use Rattle.header.specs.Header.{pixelCount}
 use Rattle.rules.specs.Reading.{Answer}
 use Rattle.rules.specs.Decode.{decoding, writtenOver}
 use Rattle.rules.specs.Step.{State, started, starting, more, end, step, steppedOver}
@@ -27,11 +28,16 @@ pub data Crew (m : List ℕ) (w : ℕ) (o₀ : List ℕ) : List State → List �
 
 -- what holds of each worker s whenever the output is o
 pub record Undisturbed (m : List ℕ) (w : ℕ) (o₀ : List ℕ) (s : State) (o : List ℕ) : Type 0 where
-  -- the uncut decode writes all the bytes before its pixel,
+  -- the output keeps its length
+  pub same-length : length o ≡ length o₀
+  -- the uncut decode writes all the bytes before the worker's pixel,
   pub reaches : bytesBefore s ≤ length (decoding m w (length o₀) .bytes)
   -- and they stand in the output
   pub stand : take (bytesBefore s) o ≡ take (bytesBefore s) (decoding m w (length o₀) .bytes)
-  -- its end is the uncut decode's, with the right output
+  -- its pixel is not past the picture, and a step that goes on brings it further, so its own steps are at most the pixels missing plus one
+  pub within : s .place .pixel ≤ pixelCount (s .header)
+  pub further : (s′ : State) (bytes : List ℕ) → step s m (length o) ≡ more s′ bytes → s .place .pixel < s′ .place .pixel
+  -- its end is the uncut decode's, with the right output, then and for as long as the others go on
   pub ends :
       (answer : Answer) → step s m (length o) ≡ end answer
       → (answer ≡ decoding m w (length o₀) .answer) × (o ≡ writtenOver (decoding m w (length o₀) .bytes) o₀)

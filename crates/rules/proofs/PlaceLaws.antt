@@ -10,7 +10,7 @@ use lib.Dec.{eqb}
 use lib.ListN.{length, getD, take, drop, set, length-set, length-drop, getD-replicate}
 use lib.Seq.{length-take-le}
 use Rattle.pixel.specs.declared.Pixel.{Pixel}
-use Rattle.pixel.specs.Colour.{clearPixel, slotOf, withAlpha}
+use Rattle.pixel.specs.Colour.{clearPixel, withAlpha}
 use Rattle.header.specs.declared.Header.{Header}
 use Rattle.rules.specs.Chunk.{Chunk, colourOf, INDEX, DIFF, LUMA, RUN, RGB, RGBA, Stuck}
 use Rattle.rules.specs.Reading.{Place, startPlace, pixelsBrought, pixelAfter, placeAfter, bytesOf}
@@ -64,15 +64,15 @@ set-keeps P (x ∷ xs) (suc s) (suc i) p d new old = set-keeps P xs s i p d new 
 
 -- a pixel of four bytes stored in a slot
 stored-shaped :
-    (b : Bool) (slots : List Pixel) (current p : Pixel) → Shaped slots current → length (p .rgba) ≡ 4
-    → Shaped (cond b (set slots (slotOf p) p) slots) p
-stored-shaped true slots current p shaped four =
+    (b : Bool) (slots : List Pixel) (current p : Pixel) (i : ℕ) → Shaped slots current → length (p .rgba) ≡ 4
+    → Shaped (cond b (set slots i p) slots) p
+stored-shaped true slots current p i shaped four =
     record {
       current-is = four;
-      slots-are = length-set slots (slotOf p) p ∙ shaped .slots-are;
-      slot-is = λ i h. set-keeps (λ q. length (q .rgba) ≡ 4) slots (slotOf p) i p clearPixel four (shaped .slot-is i h);
+      slots-are = length-set slots i p ∙ shaped .slots-are;
+      slot-is = λ j h. set-keeps (λ q. length (q .rgba) ≡ 4) slots i j p clearPixel four (shaped .slot-is j h);
     }
-stored-shaped false slots current p shaped four =
+stored-shaped false slots current p i shaped four =
     record { current-is = four; slots-are = shaped .slots-are; slot-is = shaped .slot-is }
 
 -- a chunk of a part at a place
@@ -87,7 +87,7 @@ module _ (header : Header) (wanted : ℕ) (place : Place) (k : Chunk) {part : Li
   pub shaped-next : Shaped (placeAfter decoder header wanted place k .slots) (placeAfter decoder header wanted place k .current)
   unfolding placeAfter
   shaped-next =
-      stored-shaped (decoderStores k) (place .slots) (place .current) (pixelAfter decoder wanted place k) shaped pixel-shaped
+      stored-shaped (decoderStores k) (place .slots) (place .current) (pixelAfter decoder wanted place k) _ shaped pixel-shaped
 
   -- it writes its pixels' bytes
   bytes-length : wanted ≤ 4 → length (bytesOf decoder header wanted place k) ≡ pixelsBrought header place k * wanted
