@@ -18,7 +18,7 @@ use Rattle.rules.proofs.ChunkLaws.{Sound}
 use Rattle.rules.proofs.PastingLaws.{take-pasted, drop-pasted, beyond-pasted, length-pasted}
 use Rattle.rules.proofs.ReadingLaws.{advances, stays-within}
 use Rattle.demands.specs.TakeOver.{bytesBefore}
-use Rattle.demands.proofs.Steps.{nextState, bytesBy, moveFrom, needed, Kind, kind, end-is-not-more}
+use Rattle.demands.proofs.Steps.{nextState, bytesBy, moveFrom, needed, Kind, kind, end-is-not-more, WentOn, went-on}
 use Rattle.demands.proofs.Way.{whole, OnWay, within, uncut-whole, uncut-short, whole-ends, same-needed, reached, written-on, reaches-on, goes-on-way}
 
 -- what follows place k in the first k + j of a list
@@ -152,14 +152,9 @@ module _ (m : List ℕ) (w : ℕ) where
           }
 
     -- a step that goes on leads along the way
+    went-along : (s′ : State) (bytes : List ℕ) → WentOn m s (length o) s′ bytes → Onward b o s s′ (steppedOver s bytes o)
+    went-along s′ bytes c =
+        rw (← c .next, ← c .written) (goes-there (c .done) (c .fits) (c .sound) (c .missing) (c .moves))
+
     pub goes-as-uncut : (s′ : State) (bytes : List ℕ) → step s m (length o) ≡ more s′ bytes → Onward b o s s′ (steppedOver s bytes o)
-    goes-as-uncut s′ bytes e = go (step s m (length o)) (kind m s (length o)) e
-      where
-        go : (v : Step) → Kind m s (length o) v → v ≡ more s′ bytes → Onward b o s s′ (steppedOver s bytes o)
-        go v (Kind.not-well bad) is = absurd (end-is-not-more is)
-        go v (Kind.no-room lacks) is = absurd (end-is-not-more is)
-        go v (Kind.at-end a fits stops) is = absurd (end-is-not-more is)
-        go v (Kind.by-chunk k fits sound missing moves) is =
-            let next : nextState s k ≡ s′ = cc in
-            let written : bytesBy s k ≡ bytes = cc in
-            rw (← next, ← written) (goes-there k fits sound missing moves)
+    goes-as-uncut s′ bytes e = went-along s′ bytes (went-on m s (length o) s′ bytes e)

@@ -80,35 +80,43 @@ module _ (m : List ℕ) (s : State) (room : ℕ) where
 pub end-is-not-more : {answer : Answer} {s : State} {bytes : List ℕ} → end answer ≡ more s bytes → ⊥
 end-is-not-more p = let z : _≡_ {A = ℕ} 0 1 = cc in omega arith
 
--- a step that goes on brings its pixel further, for the same wanted channels
-pub step-goes-further :
-    (m : List ℕ) (s : State) (room : ℕ) (s′ : State) (bytes : List ℕ) → step s m room ≡ more s′ bytes
-    → bytesBefore s ≤ bytesBefore s′
-step-goes-further m s room s′ bytes e = go (step s m room) (kind m s room) e
+-- a step that goes on, from s to s′, has done a chunk
+pub record WentOn (m : List ℕ) (s : State) (room : ℕ) (s′ : State) (bytes : List ℕ) : Type 0 where
+  pub done : Chunk
+  pub fits : needed s ≤ room
+  pub sound : Sound (drop (s .place .at) m) done
+  pub missing : s .place .pixel < pixelCount (s .header)
+  pub moves : moveFrom m s ≡ Move.more (nextState s done .place) (bytesBy s done)
+  pub next : nextState s done ≡ s′
+  pub written : bytesBy s done ≡ bytes
+
+pub went-on :
+    (m : List ℕ) (s : State) (room : ℕ) (s′ : State) (bytes : List ℕ) → step s m room ≡ more s′ bytes → WentOn m s room s′ bytes
+went-on m s room s′ bytes e = go (step s m room) (kind m s room) e
   where
-    go : (v : Step) → Kind m s room v → v ≡ more s′ bytes → bytesBefore s ≤ bytesBefore s′
+    go : (v : Step) → Kind m s room v → v ≡ more s′ bytes → WentOn m s room s′ bytes
     go v (not-well bad) is = absurd (end-is-not-more is)
     go v (no-room short) is = absurd (end-is-not-more is)
     go v (at-end answer fits last) is = absurd (end-is-not-more is)
     go v (by-chunk k fits sound missing moves) is =
-        let next : nextState s k ≡ s′ = cc in
-        rw (← next)
-        (mul-le-mul-right (s .wanted) (le-of-lt (advances decoder (s .header) (s .wanted) (s .place) k (sound .once) missing)))
+        record { done = k; fits = fits; sound = sound; missing = missing; moves = moves; next = cc; written = cc }
+
+-- a step that goes on brings the pixel further
+pub step-goes-further :
+    (m : List ℕ) (s : State) (room : ℕ) (s′ : State) (bytes : List ℕ) → step s m room ≡ more s′ bytes
+    → bytesBefore s ≤ bytesBefore s′
+step-goes-further m s room s′ bytes e =
+    let c = went-on m s room s′ bytes e in
+    rw (← c .next)
+    (mul-le-mul-right (s .wanted) (le-of-lt (advances decoder (s .header) (s .wanted) (s .place) (c .done) (c .sound .once) (c .missing))))
 
 -- a step never changes a byte before its pixel
 pub step-keeps-before :
     (m : List ℕ) (s : State) (o : List ℕ) (s′ : State) (bytes : List ℕ) → step s m (length o) ≡ more s′ bytes
     → take (bytesBefore s) (steppedOver s bytes o) ≡ take (bytesBefore s) o
-step-keeps-before m s o s′ bytes e = go (step s m (length o)) (kind m s (length o)) e
-  where
-    go :
-        (v : Step) → Kind m s (length o) v → v ≡ more s′ bytes
-        → take (bytesBefore s) (steppedOver s bytes o) ≡ take (bytesBefore s) o
-    go v (not-well bad) is = absurd (end-is-not-more is)
-    go v (no-room short) is = absurd (end-is-not-more is)
-    go v (at-end answer fits last) is = absurd (end-is-not-more is)
-    go v (by-chunk k fits sound missing moves) is =
-        before-pasted o (bytesBefore s) bytes (omega (arith, mul-le-mul-right (s .wanted) missing))
+step-keeps-before m s o s′ bytes e =
+    let c = went-on m s (length o) s′ bytes e in
+    before-pasted o (bytesBefore s) bytes (omega (arith, c .fits, mul-le-mul-right (s .wanted) (c .missing)))
 
 -- what agrees so far agrees less far
 kept-within : (n k : ℕ) (a b : List ℕ) → n ≤ k → take k a ≡ take k b → take n a ≡ take n b

@@ -1,6 +1,6 @@
 -- Demand 3, take-over, proved: however often a decode is cut and taken up again, it ends as the uncut one.
 -- Assumes nothing.
-use mathlib.Core.Path.{_≡_, refl, _∙_, ap}
+use mathlib.Core.Path.{_≡_, refl, sym, _∙_, ap}
 use mathlib.Core.List.{List}
 use Prim.Native.Nat.{ℕ, zero, suc, _+_, _^_, _<_}
 use native.Mathlib.Nat.{add-comm}
@@ -67,35 +67,30 @@ pub reached-readable :
     {m : List ℕ} {w : ℕ} {s : State} {o b : List ℕ} → Life m w s o b → readRecord (recordBytes s) ≡ started s
 reached-readable {s = s} life = readable s (lived life .on-way)
 
-module _ (m : List ℕ) (w : ℕ) where
-  -- a run of more steps than pixels are missing ends, as the uncut decode
-  ends-within :
-      (n : ℕ) (s : State) (o b : List ℕ) → OnWay m w s → Held m w b o s → pixelCount (s .header) < s .place .pixel + n
-      → (last : State)
-      × (running m n s o ≡ ended (decoding m w (length b) .answer) last (writtenOver (decoding m w (length b) .bytes) b))
-  unfolding running
-  ends-within zero s o b on held few = absurd (omega (arith, within m w s on))
-  ends-within (suc n) s o b on held few =
-      go
-      (λ s′ bytes e.
-      let next = goes-as-uncut m w b o s on held s′ bytes e in
-      ends-within n s′ (steppedOver s bytes o) b (next .on-way) (next .holds) (omega (arith, next .further, next .same-picture)))
-      (step s m (length o)) refl
-    where
-      go :
-          ((s′ : State) (bytes : List ℕ) → step s m (length o) ≡ more s′ bytes
-          → (last : State)
-          × (running m n s′ (steppedOver s bytes o) ≡ ended (decoding m w (length b) .answer) last (writtenOver (decoding m w (length b) .bytes) b)))
-          → (v : Step) → step s m (length o) ≡ v
-          → (last : State)
-          × (runOn (running m n) s o v ≡ ended (decoding m w (length b) .answer) last (writtenOver (decoding m w (length b) .bytes) b))
-      go further (more s′ bytes) e = further s′ bytes e
-      go further (end answer) e =
-          let uncut = ends-as-uncut m w b o s on held answer e in
-          (s, rw (← uncut .0, ← uncut .1))
+-- a run of more steps than pixels are missing ends, as the uncut decode
+ends-within :
+    (m : List ℕ) (w n : ℕ) (s : State) (o b : List ℕ) → OnWay m w s → Held m w b o s
+    → pixelCount (s .header) < s .place .pixel + n → EndsAsUncut m w b (running m n s o)
+unfolding running
+ends-within m w zero s o b on held few = absurd (omega (arith, within m w s on))
+ends-within m w (suc n) s o b on held few =
+    go
+    (λ s′ bytes e.
+    let next = goes-as-uncut m w b o s on held s′ bytes e in
+    ends-within m w n s′ (steppedOver s bytes o) b (next .on-way) (next .holds) (omega (arith, next .further, next .same-picture)))
+    (step s m (length o)) refl
+  where
+    go :
+        ((s′ : State) (bytes : List ℕ) → step s m (length o) ≡ more s′ bytes → EndsAsUncut m w b (running m n s′ (steppedOver s bytes o)))
+        → (v : Step) → step s m (length o) ≡ v → EndsAsUncut m w b (runOn (running m n) s o v)
+    go further (more s′ bytes) e = further s′ bytes e
+    go further (end answer) e =
+        let uncut = ends-as-uncut m w b o s on held answer e in
+        (s, rw (← uncut .0, ← uncut .1))
 
--- from every history the end comes within the pixels still missing plus one steps, with the uncut decode's answer and output
-pub take-over : {m : List ℕ} {w : ℕ} {s : State} {o b : List ℕ} → Life m w s o b → EndsAsUncut m w s o b
+-- from every history the end comes within the pixels still missing plus one steps, and is the uncut decode's
+pub take-over :
+    {m : List ℕ} {w : ℕ} {s : State} {o b : List ℕ} → Life m w s o b → EndsAsUncut m w b (running m (stepsLeft s) s o)
 take-over {m} {w} {s} {o} {b} life =
     let l = lived life in
     ends-within m w (stepsLeft s) s o b (l .on-way) (l .holds) (omega arith)
@@ -123,15 +118,12 @@ run-lives {m} {w} (suc n) {s} {o} {b} life s′ o′ e =
 pub run-ends-as-uncut :
     {m : List ℕ} {w : ℕ} {s : State} {o b : List ℕ} → Life m w s o b
     → (n : ℕ) (answer : Answer) (last : State) (left : List ℕ) → running m n s o ≡ ended answer last left
-    → (answer ≡ decoding m w (length b) .answer) × (left ≡ writtenOver (decoding m w (length b) .bytes) b)
+    → EndsAsUncut m w b (running m n s o)
 run-ends-as-uncut {m} {w} {s} {o} {b} life n answer last left e =
     let over = take-over life in
-    let one : running m (n + stepsLeft s) s o ≡ ended answer last left =
-    run-adds m n (stepsLeft s) s o ∙ ap (runningOn m (stepsLeft s)) e in
-    let other : running m (stepsLeft s + n) s o ≡ ended (decoding m w (length b) .answer) (over .0) (writtenOver (decoding m w (length b) .bytes) b) =
-    run-adds m (stepsLeft s) n s o ∙ ap (runningOn m n) (over .1) in
-    let same : running m (n + stepsLeft s) s o ≡ running m (stepsLeft s + n) s o = rw (add-comm n (stepsLeft s)) in
-    (cc, cc)
+    let stays : running m (n + stepsLeft s) s o ≡ running m n s o =
+    run-adds m n (stepsLeft s) s o ∙ ap (runningOn m (stepsLeft s)) e ∙ sym e in
+    (over .0, sym stays ∙ rw (add-comm n (stepsLeft s)) (run-adds m (stepsLeft s) n s o ∙ ap (runningOn m n) (over .1)))
 
 -- a worker goes on from a checkpoint and dies after any number of steps: the checkpoint is taken up again on what it left
 pub left-behind :

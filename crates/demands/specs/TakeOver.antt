@@ -26,16 +26,15 @@ pub data Life (m : List ℕ) (w : ℕ) : State → List ℕ → List ℕ → Typ
       {s s′ : State} {o b : List ℕ} → Life m w s o b → (o′ : List ℕ)
       → take (bytesBefore s) o′ ≡ take (bytesBefore s) o → readRecord (recordBytes s) ≡ started s′ → Life m w s′ o′ o′
 
--- the pixels still missing plus one
+-- the pixels still missing plus one: the steps within which the end must come
 abbrev pub stepsLeft : State → ℕ
 stepsLeft s = pixelCount (s .header) - s .place .pixel + 1
 
--- Within that many steps comes the end, with the uncut decode's answer; the output then holds every byte that the uncut decode writes,
--- and after them what it held when it was taken up.
-abbrev pub EndsAsUncut : List ℕ → ℕ → State → List ℕ → List ℕ → Type 0
-EndsAsUncut m w s o b =
-    let uncut = decoding m w (length b) in
-    (last : State) × (running m (stepsLeft s) s o ≡ ended (uncut .answer) last (writtenOver (uncut .bytes) b))
+-- A run on an output that was b when it was taken up has ended as the uncut decode into b: with its answer, every byte that it writes,
+-- and after them what b held.
+abbrev pub EndsAsUncut : List ℕ → ℕ → List ℕ → Ran → Type 0
+EndsAsUncut m w b run =
+    (last : State) × (run ≡ ended (decoding m w (length b) .answer) last (writtenOver (decoding m w (length b) .bytes) b))
 
 -- so many steps more, where a run has not ended
 abbrev pub runningOn : List ℕ → ℕ → Ran → Ran
