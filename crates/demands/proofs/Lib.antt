@@ -3,4 +3,5 @@ pub mod Steps
 pub mod Way
 pub mod Held
 pub mod TakeOver
+pub mod Partly
 pub mod Workers

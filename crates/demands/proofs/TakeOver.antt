@@ -9,7 +9,6 @@ use lib.Dec.{T}
 use lib.ListN.{length, take}
 use Rattle.header.specs.Header.{pixelCount}
 use Rattle.rules.specs.Reading.{Answer}
-use Rattle.rules.specs.Decode.{decoding, writtenOver}
 use Rattle.rules.specs.Step.{State, Typed, wellFormed, started, starting, Step, more, end, step, steppedOver, going, ended, runOn, running}
 use Rattle.rules.specs.Record.{recordBytes, readRecord}
 use Rattle.rules.proofs.RecordLaws.{record-read-back}

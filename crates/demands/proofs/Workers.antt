@@ -1,20 +1,22 @@
 -- Any number of workers at once on one output, proved: none disturbs another, and each ends as the uncut decode.
 -- Assumes nothing.
-use mathlib.Core.Path.{_≡_, refl}
+use mathlib.Core.Path.{_≡_, refl, sym, _∙_, ap}
 use mathlib.Core.List.{List, [], _∷_, _++_}
 use Prim.Native.Nat.{ℕ, _^_, _≤_, _<_, zero-le}
 use native.Mathlib.Nat.{lt-of-not-le}
 use native.Mathlib.Decide.{decLe}
 use native.Mathlib.Omega.{arith}
 use lib.ListN.{length, take}
+use Rattle.rules.specs.Reading.{Answer}
 use Rattle.rules.specs.Decode.{decoding}
-use Rattle.rules.specs.Step.{State, started, starting, more, step, steppedOver}
+use Rattle.rules.specs.Step.{State, started, starting, more, end, step, steppedOver}
 use Rattle.rules.specs.Record.{recordBytes, readRecord}
 use Rattle.demands.specs.TakeOver.{bytesBefore}
-use Rattle.demands.specs.Workers.{Crew, nobody, joins, takes-up, steps, Undisturbed}
+use Rattle.demands.specs.Workers.{Partly, Crew, nobody, joins, takes-up, steps, stops-inside, Undisturbed}
 use Rattle.demands.proofs.Steps.{needed}
 use Rattle.demands.proofs.Way.{OnWay, starts-on-way, starts-at-none, within, uncut-whole}
 use Rattle.demands.proofs.Held.{Held, ends-as-uncut, goes-as-uncut}
+use Rattle.demands.proofs.Partly.{held-partly}
 use Rattle.demands.proofs.TakeOver.{readable}
 
 -- each of some states
@@ -95,11 +97,29 @@ module _ (m : List ℕ) (w : ℕ) (o₀ : List ℕ) where
               (left ++ (s ∷ right)) (crew .each));
         }
 
+    manned-stops-inside :
+        (s′ : State) (bytes o′ : List ℕ) → step s m (length o) ≡ more s′ bytes → Partly o (steppedOver s bytes o) o′
+        → Manned m w o₀ (left ++ (s ∷ right)) o′
+    manned-stops-inside s′ bytes o′ e partly =
+        let next = goes-as-uncut m w o₀ o s (worker .on-way) (worker .holds) s′ bytes e in
+        let keeps : (t : State) → OnWay m w t → Held m w o₀ o t → Held m w o₀ o′ t =
+        λ t on held. held-partly o (steppedOver s bytes o) o′ partly m w o₀ t held (next .others t on held) in
+        record {
+          small = crew .small;
+          welcome = λ t on none. keeps t on (crew .welcome t on none);
+          each =
+              all-map (Working m w o₀ o) (Working m w o₀ o′)
+              (λ t a. record { on-way = a .on-way; holds = keeps t (a .on-way) (a .holds); idle = a .idle })
+              (left ++ (s ∷ right)) (crew .each);
+        }
+
 manned : {m : List ℕ} {w : ℕ} {o₀ : List ℕ} {ss : List State} {o : List ℕ} → Crew m w o₀ ss o → Manned m w o₀ ss o
 manned {m} {w} {o₀} (nobody small) = manned-nobody m w o₀ small
 manned {m} {w} {o₀} (joins {s} {ss} {o} crew e) = manned-joins m w o₀ s ss o (manned crew) e
 manned {m} {w} {o₀} (takes-up left right s {s′} {o} crew e) = manned-takes-up m w o₀ left right s o (manned crew) s′ e
 manned {m} {w} {o₀} (steps left right s {s′} {o} {bytes} crew e) = manned-steps m w o₀ left right s o (manned crew) s′ bytes e
+manned {m} {w} {o₀} (stops-inside left right s {s′} {o} {bytes} o′ crew e partly) =
+    manned-stops-inside m w o₀ left right s o (manned crew) s′ bytes o′ e partly
 
 -- what the uncut decode writes, with room and without
 reaches-uncut :
@@ -133,3 +153,12 @@ pub workers :
     {m : List ℕ} {w : ℕ} {o₀ o : List ℕ} (left right : List State) (s : State) → Crew m w o₀ (left ++ (s ∷ right)) o
     → Undisturbed m w o₀ s o
 workers {m} {w} {o₀} {o} left right s crew = undisturbed m w o₀ o s (worker m w o₀ left right s o (manned crew))
+
+-- once a worker has ended, nothing that the others do changes a byte
+pub after-an-end :
+    {m : List ℕ} {w : ℕ} {o₀ o o′ : List ℕ} (left right left′ right′ : List State) (s : State) (answer : Answer)
+    → Crew m w o₀ (left ++ (s ∷ right)) o → step s m (length o) ≡ end answer → Crew m w o₀ (left′ ++ (s ∷ right′)) o′ → o′ ≡ o
+after-an-end {m} left right left′ right′ s answer crew e later =
+    let now = workers left right s crew in
+    let then = workers left′ right′ s later in
+    then .ends answer (ap (step s m) (then .same-length ∙ sym (now .same-length)) ∙ e) .1 ∙ sym (now .ends answer e .1)

@@ -13,7 +13,7 @@ abbrev pub bytesBefore : State → ℕ
 bytesBefore s = s .place .pixel * s .wanted
 
 -- A history of message m at wanted w: the state, the output now, and the output as the last take-up, or the start, found it.
--- No output is asked to be long enough: into one that is not, steps and the uncut decode answer the same 7.
+-- No output is asked to be long enough, nor a take-up's to be as long as the last: into too few bytes steps and the uncut decode answer the same 7.
 pub data Life (m : List ℕ) (w : ℕ) : State → List ℕ → List ℕ → Type 0 where
   -- a start on any output; the message's length fits 64 bits, which the type of a slice says by itself
   begun : {s : State} (o : List ℕ) → length m < 2 ^ 64 → starting m w ≡ started s → Life m w s o o

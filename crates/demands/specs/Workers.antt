@@ -1,14 +1,20 @@
--- Beyond demand 3: any number of workers at once on one output that only their steps write, in any order of their steps.
+-- Beyond demand 3: any number of workers at once on one output that only their steps write, in any order of their steps, and with steps that stop inside.
 use mathlib.Core.List.{List, [], _∷_, _++_}
+use mathlib.Core.Logic.{_⊎_}
 use mathlib.Core.Path.{_≡_}
 use Prim.Native.Nat.{ℕ, _^_, _≤_, _<_}
-use lib.ListN.{length, take}
+use lib.ListN.{length, getD, take}
 use Rattle.header.specs.Header.{pixelCount}
 use Rattle.rules.specs.Reading.{Answer}
 use Rattle.rules.specs.Decode.{decoding, writtenOver}
 use Rattle.rules.specs.Step.{State, started, starting, more, end, step, steppedOver}
 use Rattle.rules.specs.Record.{recordBytes, readRecord}
 use Rattle.demands.specs.TakeOver.{bytesBefore}
+
+-- a step from o to new that stopped inside: each byte is the old one or the new one
+pub record Partly (o new o′ : List ℕ) : Type 0 where
+  pub same-length : length o′ ≡ length o
+  pub each : (i : ℕ) → (getD o′ i 0 ≡ getD o i 0) ⊎ (getD o′ i 0 ≡ getD new i 0)
 
 -- The workers on message m at wanted w, and the output now, which was o₀ at first. A worker that stops, or dies, stays in the list
 -- and steps no more; one that takes up an old record was in the list since that record was written, and stood still.
@@ -25,6 +31,10 @@ pub data Crew (m : List ℕ) (w : ℕ) (o₀ : List ℕ) : List State → List �
   steps :
       (left right : List State) (s : State) {s′ : State} {o bytes : List ℕ} → Crew m w o₀ (left ++ (s ∷ right)) o
       → step s m (length o) ≡ more s′ bytes → Crew m w o₀ (left ++ (s′ ∷ right)) (steppedOver s bytes o)
+  -- one of them stops inside a step and stands where it stood; it may make the step again, so steps may mix byte by byte
+  stops-inside :
+      (left right : List State) (s : State) {s′ : State} {o bytes : List ℕ} (o′ : List ℕ) → Crew m w o₀ (left ++ (s ∷ right)) o
+      → step s m (length o) ≡ more s′ bytes → Partly o (steppedOver s bytes o) o′ → Crew m w o₀ (left ++ (s ∷ right)) o′
 
 -- what holds of each worker s whenever the output is o
 pub record Undisturbed (m : List ℕ) (w : ℕ) (o₀ : List ℕ) (s : State) (o : List ℕ) : Type 0 where
@@ -37,7 +47,7 @@ pub record Undisturbed (m : List ℕ) (w : ℕ) (o₀ : List ℕ) (s : State) (o
   -- its pixel is not past the picture, and a step that goes on brings it further, so its own steps are at most the pixels missing plus one
   pub within : s .place .pixel ≤ pixelCount (s .header)
   pub further : (s′ : State) (bytes : List ℕ) → step s m (length o) ≡ more s′ bytes → s .place .pixel < s′ .place .pixel
-  -- its end is the uncut decode's, with the right output, then and for as long as the others go on
+  -- its end is the uncut decode's, with the right output
   pub ends :
       (answer : Answer) → step s m (length o) ≡ end answer
       → (answer ≡ decoding m w (length o₀) .answer) × (o ≡ writtenOver (decoding m w (length o₀) .bytes) o₀)
