@@ -5,3 +5,4 @@ pub mod Held
 pub mod TakeOver
 pub mod Partly
 pub mod Workers
+pub mod Worked

@@ -1,0 +1,72 @@
+-- A history at work, computed: two pixels, c0 35, cut after the first and taken up on an output that holds other bytes from there on.
+-- Assumes nothing.
+use mathlib.Core.Path.{_≡_, refl}
+use mathlib.Core.List.{List, [], _∷_, _++_}
+use Prim.Native.Nat.{ℕ}
+use lib.Dec.{lit<}
+use Rattle.pixel.specs.declared.types.Channels.the-variants.{Rgba}
+use Rattle.pixel.specs.declared.types.ColorSpace.the-variants.{Srgb}
+use Rattle.pixel.specs.Colour.{startPixel, clearPixel, slotOf}
+use Rattle.header.specs.declared.Header.{Header}
+use Rattle.header.specs.Header.{headerBytes, headerFrom, afterColorSpace, afterChannels, headerOf}
+use Rattle.rules.specs.Chunk.{chunkFrom, chunkAt, colourOf, timesOf, sizeOf}
+use Rattle.rules.specs.Reading.{done, marker, sameBytes, repeated, closing, startPlace, pixelsBrought, pixelAfter, placeAfter, bytesOf, moveBy, move}
+use Rattle.rules.specs.Decode.{decoderStores, decoderKeeps, decoderReadsRgba}
+use Rattle.rules.specs.Step.{State, wellFormed, startWanted, startHeader, starting, stepBy, step, ended, running}
+use Rattle.demands.specs.TakeOver.{Life, begun, stepped, taken-up, stepsLeft}
+use Rattle.demands.proofs.TakeOver.{reached-readable}
+
+-- 2x1, RGBA, sRGB
+abbrev header : Header
+header = record { width = 2; height = 1; channels = Rgba; colorspace = Srgb }
+
+-- a run of 1, then INDEX of a slot never stored
+unfoldable pub message : List ℕ
+message = headerBytes header ++ (0xc0 ∷ 0x35 ∷ marker)
+
+-- a first worker's output, with one byte more than the picture needs, before and after its first step
+abbrev lent : List ℕ
+lent = 7 ∷ 7 ∷ 7 ∷ 7 ∷ 7 ∷ 7 ∷ 7 ∷ 7 ∷ 7 ∷ []
+
+abbrev cut : List ℕ
+cut = 0 ∷ 0 ∷ 0 ∷ 255 ∷ 7 ∷ 7 ∷ 7 ∷ 7 ∷ 7 ∷ []
+
+-- what a second worker finds
+abbrev found : List ℕ
+found = 0 ∷ 0 ∷ 0 ∷ 255 ∷ 9 ∷ 9 ∷ 9 ∷ 9 ∷ 9 ∷ []
+
+-- the states: at the start, after the run, and after the INDEX
+abbrev atStart : State
+atStart = record { header = header; wanted = 4; place = startPlace }
+
+abbrev afterRun : State
+afterRun =
+    record {
+      header = header;
+      wanted = 4;
+      place = record { at = 15; pixel = 1; current = startPixel; slots = startPlace .slots };
+    }
+
+abbrev afterIndex : State
+afterIndex =
+    record {
+      header = header;
+      wanted = 4;
+      place = record { at = 16; pixel = 2; current = clearPixel; slots = startPlace .slots };
+    }
+
+pub starts : Life message 4 atStart lent lent
+unfolding message headerBytes starting startHeader startWanted headerOf afterChannels afterColorSpace headerFrom
+starts = begun lent (lit< tt) refl
+
+pub stops : Life message 4 afterRun cut lent
+unfolding message headerBytes step stepBy wellFormed startPlace slotOf chunkFrom chunkAt colourOf timesOf sizeOf repeated pixelsBrought pixelAfter placeAfter bytesOf moveBy move decoderStores decoderKeeps decoderReadsRgba
+stops = stepped starts refl
+
+pub resumes : Life message 4 afterRun found found
+resumes = taken-up stops found refl (reached-readable stops)
+
+-- the second worker's two steps: both pixels are right, the byte after them is as it was found
+pub ends : running message (stepsLeft afterRun) afterRun found ≡ ended (done 8 24) afterIndex (0 ∷ 0 ∷ 0 ∷ 255 ∷ 0 ∷ 0 ∷ 0 ∷ 0 ∷ 9 ∷ [])
+unfolding message headerBytes running closing sameBytes step stepBy wellFormed startPlace slotOf chunkFrom chunkAt colourOf timesOf sizeOf repeated pixelsBrought pixelAfter placeAfter bytesOf moveBy move decoderStores decoderKeeps decoderReadsRgba
+ends = refl
