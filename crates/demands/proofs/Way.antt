@@ -66,7 +66,7 @@ opening m w s e = heading (headerOf m) refl e
     heading (header-read.Ok header) reads e = wanting header reads (channelsFrom w) refl e
 
 -- the uncut decode reads with the header and the channels that a start takes
-pub uncut-reads :
+uncut-reads :
     (m : List ℕ) (w room : ℕ) (s : State) → starting m w ≡ started s
     → decoding m w room ≡ readingInto decoder (s .header) (s .wanted) m room
 unfolding wholeReading withHeader withWanted
