@@ -1,0 +1,75 @@
+-- `resume::form::well_formed` meets its contract: the tests in the code's order leave those of the definition.
+-- Assumes nothing.
+use borrow.Author.Needs.{needs}
+use Rattle.resume.proofs.form.well_formed.Statement.{statement}
+use Rattle.resume.proofs.form.well_formed.Tie as tie
+use mathlib.Core.Path.{sym}
+use mathlib.Core.Bool.{and-true, and-false}
+use native.Mathlib.Omega.{arith}
+use borrow.Author.Tests.{le-leb, lt-leb, eq-eqb, ne-eqb}
+use Rattle.header.specs.Header.{pixelCount}
+use Rattle.rules.specs.Step.{wantedPasses, wellFormed}
+use Rattle.resume.specs.State.{stateOf}
+
+n-pixels-requires : tie.Need-n-pixels-requires
+n-pixels-requires c κs = search needs
+
+returns : tie.Need-returns
+unfolding wellFormed
+returns c =
+    let d = c .before .before .before .args .decoder in
+    rw (lt-leb 1 (pixelCount (d .header)) (omega (arith, c .before .n-pixels .ensures)))
+
+returns-2 : tie.Need-returns-2
+unfolding wellFormed
+returns-2 c =
+    let d = c .before .before .before .before .args .decoder in
+    let n = c .before .before .n-pixels .ensures in
+    rw (le-leb 1 (pixelCount (d .header)) (omega arith), lt-leb (pixelCount (d .header)) 400000000 (omega arith))
+
+returns-3 : tie.Need-returns-3
+unfolding wellFormed
+returns-3 c =
+    let d = c .before .before .before .before .before .before .args .decoder in
+    let n = c .before .before .before .before .n-pixels .ensures in
+    rw (le-leb 1 (pixelCount (d .header)) (omega arith), le-leb (pixelCount (d .header)) 400000000 (omega arith), lt-leb 14 (d .at) (omega arith))
+    (sym (and-false (wantedPasses (stateOf d))))
+
+returns-4 : tie.Need-returns-4
+unfolding wellFormed
+returns-4 c =
+    let d = c .before .before .before .before .before .before .before .before .args .decoder in
+    let n = c .before .before .before .before .before .before .n-pixels .ensures in
+    rw (le-leb 1 (pixelCount (d .header)) (omega arith), le-leb (pixelCount (d .header)) 400000000 (omega arith), le-leb 14 (d .at) (omega arith), lt-leb (d .pixel) (pixelCount (d .header)) (omega arith))
+    (sym (and-false (wantedPasses (stateOf d))))
+
+a-requires : tie.Need-a-requires
+a-requires c κs = search needs
+
+returns-5 : tie.Need-returns-5
+unfolding wellFormed
+returns-5 c =
+    let d = c .before .before .before .before .before .before .before .before .before .before .before .before .args .decoder in
+    let n = c .before .before .before .before .before .before .before .before .before .before .n-pixels .ensures in
+    rw (le-leb 1 (pixelCount (d .header)) (omega arith), le-leb (pixelCount (d .header)) 400000000 (omega arith), le-leb 14 (d .at) (omega arith), le-leb (d .pixel) (pixelCount (d .header)) (omega arith), eq-eqb (d .wanted) 3 (omega arith), c .a .ensures)
+
+returns-6 : tie.Need-returns-6
+unfolding wellFormed
+returns-6 c =
+    let d = c .before .before .before .before .before .before .before .before .before .before .before .args .decoder in
+    let n = c .before .before .before .before .before .before .before .before .before .n-pixels .ensures in
+    rw (le-leb 1 (pixelCount (d .header)) (omega arith), le-leb (pixelCount (d .header)) 400000000 (omega arith), le-leb 14 (d .at) (omega arith), le-leb (d .pixel) (pixelCount (d .header)) (omega arith), ne-eqb (d .wanted) 3 (c .before .if5 .left))
+    (sym (and-true _))
+
+pub well-formed-spec : {M : Type 1} → statement M
+well-formed-spec =
+    tie.close
+    (tie.spec
+    n-pixels-requires
+    returns
+    returns-2
+    returns-3
+    returns-4
+    a-requires
+    returns-5
+    returns-6)

@@ -1,0 +1,3 @@
+-- The definitions of crate `resume`.
+pub mod Inner
+pub mod State

@@ -1,0 +1,36 @@
+-- What a decoder's fields and the answers of its functions mean: a state, a start and a record of the rules.
+use Prim.Native.Nat.{ℕ}
+use Rattle.header.specs.declared.Header.{Header}
+use Rattle.header.specs.Header.{defaultHeader}
+use Rattle.rules.specs.Reading.{startPlace}
+use Rattle.rules.specs.Step.{State, Started, started, notStarted}
+use Rattle.resume.specs.declared.Decoder.{Decoder}
+use Rattle.resume.specs.declared.StartAnswer.{StartAnswer}
+use Rattle.resume.specs.declared.StartAnswer.the-variants.{Ok, Refused}
+
+-- the state that a decoder holds, field by field
+abbrev pub stateOf : Decoder → State
+stateOf d =
+    record {
+      header = d .header;
+      wanted = d .wanted;
+      place = record { at = d .at; pixel = d .pixel; current = d .current; slots = d .slots };
+    }
+
+-- a state at the start place
+abbrev pub freshState : Header → ℕ → State
+freshState header wanted = record { header = header; wanted = wanted; place = startPlace }
+
+-- a state to start from
+abbrev pub idleState : State
+idleState = freshState defaultHeader 3
+
+-- a start's answer: accepted, or the refusal
+abbrev pub startAnswer : Started → StartAnswer
+startAnswer (started s) = Ok
+startAnswer (notStarted e) = Refused e
+
+-- the state then: the new one, or after a refusal the old
+abbrev pub stateAfter : State → Started → State
+stateAfter old (started s) = s
+stateAfter old (notStarted e) = old
