@@ -1,6 +1,11 @@
 -- What the crate's own parts ask of one another; nothing that a public contract cites.
 use mathlib.Core.Path.{_≡_}
+use mathlib.Core.List.{List}
+use Prim.Native.Nat.{ℕ}
+use Rattle.number.specs.Seven.{readNumber}
+use Rattle.header.specs.declared.Header.{Header}
 use Rattle.rules.specs.Step.{Started}
+use Rattle.rules.specs.Record.{withNumber, readSlots}
 use Rattle.resume.specs.declared.Decoder.{Decoder}
 use Rattle.resume.specs.declared.Started as code
 use Rattle.resume.specs.State.{stateOf, startAnswer, stateAfter}
@@ -8,3 +13,12 @@ use Rattle.resume.specs.State.{stateOf, startAnswer, stateAfter}
 -- a start of the rules is answered, and the state is the one that it leaves
 abbrev pub Answers : Started → Decoder → code.Started → Type 0
 Answers s old r = (r .answer ≡ startAnswer s) × (stateOf (r .decoder) ≡ stateAfter (stateOf old) s)
+
+-- a record from its pixel position on
+abbrev pub fromPixel : Header → ℕ → ℕ → List ℕ → Started
+fromPixel header wanted at bytes =
+    withNumber bytes (readNumber bytes) (λ pixel rest. readSlots header wanted at pixel rest)
+
+-- a record from its byte position on
+abbrev pub fromAt : Header → ℕ → List ℕ → Started
+fromAt header wanted bytes = withNumber bytes (readNumber bytes) (fromPixel header wanted)

@@ -1,6 +1,7 @@
 // A decode as a state that moves on by value: where it stands, a start, and the record that another worker takes up.
 ghost use mathlib.Core.Path.{_≡_};
 ghost use Rattle.rules.specs.Step.{starting};
+ghost use Rattle.rules.specs.Record.{readRecord};
 ghost use Rattle.resume.specs.State.{stateOf, idleState, startAnswer, stateAfter};
 use header::Header;
 use header::HeaderRead;
@@ -10,6 +11,7 @@ use pixel::types::Channels;
 
 mod form;
 mod opening;
+mod reader;
 
 pub type Slots = [Pixel; 64];
 
@@ -54,6 +56,16 @@ impl Decoder {
             HeaderRead::Ok(header) => {
                 opening::with_wanted(self, header, Channels::try_from(wanted))
             }
+        }
+    }
+
+    // The state that a record holds.
+    pub fn take_up(self, record: &[u8]) -> Started
+        ensures { λ r. ⌜ (r .answer ≡ startAnswer (readRecord (now («record» .entry)))) × (stateOf (r .decoder) ≡ stateAfter (stateOf self) (readRecord (now («record» .entry)))) ⌝ }
+    {
+        match Header::decode(record) {
+            HeaderRead::Refused(e) => opening::refused(self, e),
+            HeaderRead::Ok(header) => reader::read_wanted(self, header, &record[14..]),
         }
     }
 }

@@ -1,13 +1,17 @@
--- Laws of bytes put into an output at a place: what stands before and after them, and how many there are.
+-- Laws of parts of a list, and of bytes put into an output at a place: what stands before and after them, and how many there are.
 -- Assumes nothing.
-use mathlib.Core.Path.{_≡_, sym}
-use mathlib.Core.List.{List, _++_, append-assoc}
+use mathlib.Core.Path.{_≡_, sym, _∙_, ap}
+use mathlib.Core.List.{List, [], _++_, append-assoc}
 use Prim.Native.Nat.{ℕ, zero, suc, _+_, _-_, _*_, _≤_}
-use native.Mathlib.Nat.{suc-mul, zero-mul}
+use native.Mathlib.Nat.{add-assoc, add-zero, suc-mul, zero-mul}
 use native.Mathlib.Omega.{arith}
-use lib.ListN.{length, take, drop, length-append, length-take, length-drop}
-use lib.Seq.{length-take-le, take-at, drop-at, drop-drop}
+use lib.ListN.{length, take, drop, length-append, length-take, length-drop, take-append-drop}
+use lib.Seq.{sets, sets-eq, length-take-le, take-all, take-at, drop-at, drop-drop}
 use Rattle.rules.specs.Reading.{pasted, repeated}
+
+-- all that follows a place is all that follows it
+pub whole-tail : (l : List ℕ) (n : ℕ) → take (length l - n) (drop n l) ≡ drop n l
+whole-tail l n = take-all (length l - n) (drop n l) (simp length-drop (omega arith))
 
 -- what stands before the place is kept
 pub before-pasted : (out : List ℕ) (at : ℕ) (bytes : List ℕ) → at ≤ length out → take at (pasted at bytes out) ≡ take at out
@@ -35,6 +39,24 @@ module _ (out : List ℕ) (at : ℕ) (bytes : List ℕ) (fits : at + length byte
   -- its length is kept
   pub length-pasted : length (pasted at bytes out) ≡ length out
   length-pasted = simp (length-append, length-take, length-drop) (omega arith)
+
+-- a list of bytes stored one after another
+pub stored : (bytes out : List ℕ) (at : ℕ) → at + length bytes ≤ length out → sets out at bytes ≡ pasted at bytes out
+stored bytes out at fits = sets-eq bytes out at fits ∙ append-assoc (take at out) bytes (drop (at + length bytes) out)
+
+-- a part put after a part
+pub pasted-next :
+    (out : List ℕ) (at : ℕ) (x y : List ℕ) → at + length x + length y ≤ length out
+    → pasted (at + length x) y (pasted at x out) ≡ pasted at (x ++ y) out
+pasted-next out at x y fits =
+    let first : at + length x ≤ length out = omega arith in
+    let after : drop (at + length x + length y) (pasted at x out) ≡ drop (at + length x + length y) out =
+    sym (drop-drop (length y) (at + length x) (pasted at x out)) ∙ ap (drop (length y)) (drop-pasted out at x first) ∙ drop-drop (length y) (at + length x) out in
+    rw (take-pasted out at x first, after) (simp (length-append, append-assoc, add-assoc))
+
+-- nothing put
+pub pasted-none : (out : List ℕ) (at : ℕ) → pasted at [] out ≡ out
+pasted-none out at = simp add-zero (take-append-drop at out)
 
 -- bytes written so many times over are so many times as many
 pub repeated-length : (n : ℕ) (bytes : List ℕ) → length (repeated n bytes) ≡ n * length bytes

@@ -1,5 +1,4 @@
 -- The laws of crate `walk`.
-pub mod Ends
 pub mod Fitting
 pub mod Loop
 pub mod Packed

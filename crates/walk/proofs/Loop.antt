@@ -21,7 +21,7 @@ use Rattle.rules.specs.Chunk.{Chunk, cut, chunk, chunkAt, colourOf, timesOf, si
 use Rattle.rules.specs.Reading.{Place, refused, more, end, move, moveBy, pasted, repeated, pixelsBrought, pixelAfter, placeAfter, bytesOf}
 use Rattle.rules.specs.Decode.{decoder, decoderStores, decoderKeeps, decoderReadsRgba}
 use Rattle.rules.proofs.ChunkLaws.{Sound, SoundFound, something, sound-found}
-use Rattle.rules.proofs.PastingLaws.{length-pasted, repeated-length}
+use Rattle.rules.proofs.PastingLaws.{whole-tail, length-pasted, repeated-length}
 use Rattle.chunk.specs.declared.Colour.{Colour}
 use Rattle.chunk.specs.declared.Colour.the-variants as colour
 use Rattle.chunk.specs.declared.Found.{Found}
@@ -29,7 +29,6 @@ use Rattle.chunk.specs.declared.Found.the-variants as found
 use Rattle.chunk.specs.Found.{foundOf, chunkOf}
 use Rattle.walk.specs.Walking.{Walk, walking, standing, stopped}
 use Rattle.walk.specs.Inner.{threeBytes, fourBytes}
-use Rattle.walk.proofs.Ends.{whole-tail}
 
 -- an array's length is that of what its elements are mapped to
 pub unmapped : {X Y : Type 0} (f : X → Y) (l : List X) (n : ℕ) → length (map f l) ≡ n → length l ≡ n

@@ -1,20 +1,15 @@
--- Bytes put into an output at a place: one after another, part after part, and so many times over.
+-- Bytes put into an output at a place: one after another, and so many times over.
 -- Assumes nothing.
 use mathlib.Core.Path.{_≡_, sym, _∙_, ap}
 use mathlib.Core.List.{List, [], _∷_, _++_, append-assoc, append-nil}
 use Prim.Native.Nat.{ℕ, zero, suc, _+_, _*_, _≤_}
-use native.Mathlib.Nat.{add-assoc, add-zero}
 use native.Mathlib.Numerals.{towards-suc, add-one}
 use native.Mathlib.Omega.{arith}
-use lib.ListN.{take-append-drop, length, take, drop, set, length-append}
-use lib.Seq.{sets, sets-eq, drop-drop}
+use lib.ListN.{length, set}
 use Rattle.rules.specs.Reading.{pasted, repeated}
-use Rattle.rules.proofs.PastingLaws.{take-pasted, drop-pasted, repeated-length}
+use Rattle.rules.proofs.PastingLaws.{stored, pasted-next, repeated-length}
 
--- a list of bytes stored one after another
-pub stored : (bytes out : List ℕ) (at : ℕ) → at + length bytes ≤ length out → sets out at bytes ≡ pasted at bytes out
-stored bytes out at fits = sets-eq bytes out at fits ∙ append-assoc (take at out) bytes (drop (at + length bytes) out)
-
+-- three bytes and four, stored one after another
 pub stored-three :
     (out : List ℕ) (at a b c : ℕ) → at + 3 ≤ length out
     → set (set (set out at a) (at + 1) b) (at + 2) c ≡ pasted at (a ∷ b ∷ c ∷ []) out
@@ -24,20 +19,6 @@ pub stored-four :
     (out : List ℕ) (at a b c d : ℕ) → at + 4 ≤ length out
     → set (set (set (set out at a) (at + 1) b) (at + 2) c) (at + 3) d ≡ pasted at (a ∷ b ∷ c ∷ d ∷ []) out
 stored-four out at a b c d fits = simp towards-suc (simp towards-suc at (stored (a ∷ b ∷ c ∷ d ∷ []) out at fits))
-
--- a part put after a part
-pub pasted-next :
-    (out : List ℕ) (at : ℕ) (x y : List ℕ) → at + length x + length y ≤ length out
-    → pasted (at + length x) y (pasted at x out) ≡ pasted at (x ++ y) out
-pasted-next out at x y fits =
-    let first : at + length x ≤ length out = omega arith in
-    let after : drop (at + length x + length y) (pasted at x out) ≡ drop (at + length x + length y) out =
-    sym (drop-drop (length y) (at + length x) (pasted at x out)) ∙ ap (drop (length y)) (drop-pasted out at x first) ∙ drop-drop (length y) (at + length x) out in
-    rw (take-pasted out at x first, after) (simp (length-append, append-assoc, add-assoc))
-
--- nothing put
-pub pasted-none : (out : List ℕ) (at : ℕ) → pasted at [] out ≡ out
-pasted-none out at = simp add-zero (take-append-drop at out)
 
 -- so many times over, one more at the end
 pub repeated-more : (n : ℕ) (bytes : List ℕ) → repeated n bytes ++ bytes ≡ repeated (suc n) bytes

@@ -19,10 +19,9 @@ use Rattle.rules.specs.Decode.{decoder, decoderReadsRgba}
 use Rattle.rules.proofs.ChunkLaws.{Sound, SoundFound, something, sound-found}
 use Rattle.rules.proofs.ReadingLaws.{remaining-unfolds, moved-last, stays-within, advances, reading-size}
 use Rattle.rules.proofs.PlaceLaws.{Shaped, shaped-next, pixel-reached, stays-inside}
-use Rattle.rules.proofs.PastingLaws.{length-pasted}
+use Rattle.rules.proofs.PastingLaws.{length-pasted, pasted-next, pasted-none}
 use Rattle.walk.specs.Walking.{Walk, walking, standing, stopped}
 use Rattle.walk.proofs.Loop.{standing-still}
-use Rattle.walk.proofs.Pasting.{pasted-next, pasted-none}
 
 module _ (header : Header) (wanted : ℕ) (message : List ℕ) (from : ℕ) where
   -- a walk is a reading into an output from a place on

@@ -4,7 +4,7 @@ use mathlib.Core.Path.{_∙_, sym}
 use native.Mathlib.Nat.{le-of-lt}
 use lib.ListN.{drop-of-length-le}
 use lib.Seq.{drop-length}
-use Rattle.walk.proofs.Ends.{whole-tail}
+use Rattle.rules.proofs.PastingLaws.{whole-tail}
 use borrow.Author.Needs.{needs}
 use Rattle.rules.specs.Decode.{restOf}
 use Rattle.decode.proofs.rest.Statement.{statement}

@@ -1,7 +1,7 @@
 -- `decode::inner::close` meets its contract: the marker test of the part from here on is the definition's at this place.
 -- Assumes nothing.
 use borrow.Author.Needs.{needs}
-use Rattle.walk.proofs.Ends.{whole-tail}
+use Rattle.rules.proofs.PastingLaws.{whole-tail}
 use Rattle.decode.proofs.Ends.{closing-by}
 use Rattle.decode.proofs.inner.close.Statement.{statement}
 use Rattle.decode.proofs.inner.close.Tie as tie

@@ -7,7 +7,8 @@ use lib.ListN.{length}
 use Rattle.rules.specs.Reading.{pasted, repeated}
 use Rattle.pixel.specs.Packed.{unpacked}
 use Rattle.walk.specs.Inner.{threeBytes}
-use Rattle.walk.proofs.Pasting.{pasted-none, filled-more}
+use Rattle.rules.proofs.PastingLaws.{pasted-none}
+use Rattle.walk.proofs.Pasting.{filled-more}
 use Rattle.walk.proofs.three.fill_three.Statement.{statement}
 use Rattle.walk.proofs.three.fill_three.Tie as tie
 

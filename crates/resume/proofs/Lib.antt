@@ -1,0 +1,2 @@
+-- The laws behind the record's reader and writer.
+pub mod Slots

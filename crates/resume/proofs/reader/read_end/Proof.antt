@@ -1,0 +1,37 @@
+-- `resume::reader::read_end` meets its contract: the tests are the definition's, in its order.
+-- Assumes nothing.
+use borrow.Author.Needs.{needs}
+use Rattle.resume.proofs.reader.read_end.Statement.{statement}
+use Rattle.resume.proofs.reader.read_end.Tie as tie
+use mathlib.Core.Path.{refl}
+use borrow.Author.Tests.{eq-eqb, ne-eqb, not-true, not-false}
+use Rattle.rules.specs.Record.{readEnd}
+
+well-formed-requires : tie.Need-well-formed-requires
+well-formed-requires c κs = search needs
+
+refused-requires : tie.Need-refused-requires
+refused-requires c κs = search needs
+
+returns : tie.Need-returns
+unfolding readEnd
+returns c =
+    rw (← c .before .before .well-formed .ensures, not-true (c .before .before .well-formed .result) (c .before .if1 .taken)) (c .refused .ensures)
+
+refused-requires-2 : tie.Need-refused-requires-2
+refused-requires-2 c κs = search needs
+
+returns-2 : tie.Need-returns-2
+unfolding readEnd
+returns-2 c =
+    rw (← c .before .before .before .well-formed .ensures, not-false (c .before .before .before .well-formed .result) (c .before .before .if1 .left), ne-eqb _ _ (c .before .if2 .taken)) (c .refused2 .ensures)
+
+returns-3 : tie.Need-returns-3
+unfolding readEnd
+returns-3 c =
+    rw (← c .before .before .well-formed .ensures, not-false (c .before .before .well-formed .result) (c .before .if1 .left), eq-eqb _ _ (c .if2 .left)) (refl, refl)
+
+pub read-end-spec : {M : Type 1} → statement M
+read-end-spec =
+    tie.close
+    (tie.spec well-formed-requires refused-requires returns refused-requires-2 returns-2 returns-3)

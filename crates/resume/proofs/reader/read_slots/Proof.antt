@@ -1,0 +1,61 @@
+-- `resume::reader::read_slots` meets its contract: 260 bytes make the current pixel and the slots, what is left is tested.
+-- Assumes nothing.
+use borrow.Author.Needs.{needs}
+use Rattle.resume.proofs.reader.read_slots.Statement.{statement}
+use Rattle.resume.proofs.reader.read_slots.Tie as tie
+use mathlib.Core.Path.{_≡_, sym}
+use Prim.Native.Nat.{_-_}
+use lib.ListN.{length, drop, length-drop}
+use borrow.Author.Tests.{lt-ltb, le-ltb}
+use Rattle.rules.specs.Record.{readSlots}
+use Rattle.rules.proofs.PastingLaws.{whole-tail}
+
+refused-requires : tie.Need-refused-requires
+refused-requires c κs = search needs
+
+returns : tie.Need-returns
+unfolding readSlots
+returns c = rw (lt-ltb _ 260 (c .before .if1 .taken)) (c .refused .ensures)
+
+pixel-at-requires : tie.Need-pixel-at-requires
+pixel-at-requires c κs = search needs
+
+sub-slots-from : tie.Need-sub-slots-from
+sub-slots-from c = search needs
+
+part-slots-from-start : tie.Need-part-slots-from-start
+part-slots-from-start c = search needs
+
+part-slots-from-end : tie.Need-part-slots-from-end
+part-slots-from-end c = search needs
+
+slots-from-requires : tie.Need-slots-from-requires
+slots-from-requires c κs = search needs
+
+sub-read-end : tie.Need-sub-read-end
+sub-read-end c = search needs
+
+read-end-requires : tie.Need-read-end-requires
+read-end-requires c κs = search needs
+
+returns-2 : tie.Need-returns-2
+unfolding readSlots
+returns-2 c =
+    let bytes = c .before .before .before .before .before .before .args .bytes .now in
+    let left : length bytes - 260 ≡ length (drop 260 bytes) = sym (length-drop 260 bytes) in
+    rw (le-ltb (length bytes) 260 (c .before .before .before .before .if1 .left), ← left, ← whole-tail bytes 4, ← c .before .slots-from .ensures, ← c .before .before .before .pixel-at .ensures) (c .read-end .ensures)
+
+pub read-slots-spec : {M : Type 1} → statement M
+read-slots-spec =
+    tie.close
+    (tie.spec
+    refused-requires
+    returns
+    pixel-at-requires
+    sub-slots-from
+    part-slots-from-start
+    part-slots-from-end
+    slots-from-requires
+    sub-read-end
+    read-end-requires
+    returns-2)

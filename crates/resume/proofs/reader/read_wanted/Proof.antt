@@ -1,0 +1,64 @@
+-- `resume::reader::read_wanted` meets its contract: the number's answer leads to the case of the definition.
+-- Assumes nothing.
+use borrow.Author.Needs.{needs}
+use Rattle.resume.proofs.reader.read_wanted.Statement.{statement}
+use Rattle.resume.proofs.reader.read_wanted.Tie as tie
+use mathlib.Core.Path.{sym, _∙_}
+use native.Mathlib.Omega.{arith}
+use Rattle.number.proofs.Laws.{read-bounds}
+use Rattle.rules.specs.Record.{readWanted, withNumber}
+use Rattle.rules.proofs.PastingLaws.{whole-tail}
+
+read-requires : tie.Need-read-requires
+read-requires c κs = search needs
+
+enum-known-e : tie.Need-enum-known-e
+enum-known-e c = search needs
+
+refused-requires : tie.Need-refused-requires
+refused-requires c κs = search needs
+
+enum-known-value : tie.Need-enum-known-value
+enum-known-value c = search needs
+
+try-from-requires : tie.Need-try-from-requires
+try-from-requires c κs = search needs
+
+sub-read-positions : tie.Need-sub-read-positions
+sub-read-positions c =
+    omega (arith, read-bounds _ _ _ (λ i h. c .before .before .before .before .before .shared-slice-known .given i .fits) (sym (c .before .before .before .before .read .ensures) ∙ c .before .before .value .given .1))
+
+part-read-positions-start : tie.Need-part-read-positions-start
+part-read-positions-start c =
+    omega (arith, read-bounds _ _ _ (λ i h. c .before .before .before .before .before .shared-slice-known .given i .fits) (sym (c .before .before .before .before .read .ensures) ∙ c .before .before .value .given .1))
+
+part-read-positions-end : tie.Need-part-read-positions-end
+part-read-positions-end c = search needs
+
+read-positions-requires : tie.Need-read-positions-requires
+read-positions-requires c κs = search needs
+
+returns : tie.Need-returns
+unfolding readWanted withNumber
+returns c = rw (← c .before .before .before .before .read .ensures, c .before .before .e .given .1) (c .refused .ensures)
+
+returns-2 : tie.Need-returns-2
+unfolding readWanted withNumber
+returns-2 c =
+    rw (← c .before .before .before .before .before .before .read .ensures, c .before .before .before .before .value .given .1, ← c .before .before .try-from .ensures, ← whole-tail (c .before .before .before .before .before .before .before .before .args .bytes .now) _) (c .read-positions .ensures)
+
+pub read-wanted-spec : {M : Type 1} → statement M
+read-wanted-spec =
+    tie.close
+    (tie.spec
+    read-requires
+    enum-known-e
+    refused-requires
+    enum-known-value
+    try-from-requires
+    sub-read-positions
+    part-read-positions-start
+    part-read-positions-end
+    read-positions-requires
+    returns
+    returns-2)

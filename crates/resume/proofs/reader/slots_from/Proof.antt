@@ -1,0 +1,80 @@
+-- `resume::reader::slots_from` meets its contract: at each turn the slots passed are so many pixels of the bytes.
+-- Assumes nothing.
+use Rattle.resume.proofs.reader.slots_from.Statement.{statement}
+use Rattle.resume.proofs.reader.slots_from.Tie as tie
+use Prim.Native.Nat.{_≤_, _-_}
+use native.Mathlib.Numerals.{add-one}
+use native.Mathlib.Omega.{arith}
+use lib.ListN.{length, take, length-set}
+use lib.Seq.{take-suc-set, take-all}
+use borrow.Author.Needs.{needs}
+use Rattle.rules.specs.Encode.{pixelsFrom}
+use Rattle.resume.proofs.Slots.{pixels-more}
+use mathlib.Core.Path.{_≡_, refl, sym, _∙_, ap}
+use mathlib.Core.List.{List, [], _∷_, _++_}
+use Rattle.pixel.specs.declared.Pixel.{Pixel}
+
+abbrev Inv-loop : tie.InvT-loop
+Inv-loop bytes slots₀ i₀ slots i =
+    (i ≤ 64) × (length slots ≡ 64) × (take i slots ≡ pixelsFrom i 4 bytes)
+
+abbrev μ-loop : tie.MeasureT-loop
+μ-loop bytes slots₀ i₀ slots i = 64 - i
+
+clear-requires : tie.Need-clear-requires Inv-loop μ-loop
+clear-requires c κs = search needs
+
+loop-holds : tie.Need-loop-holds Inv-loop μ-loop
+unfolding pixelsFrom
+loop-holds c = (omega arith, refl, refl)
+
+mul-pixel-at : tie.Need-mul-pixel-at Inv-loop μ-loop
+mul-pixel-at c = search needs
+
+pixel-at-requires : tie.Need-pixel-at-requires Inv-loop μ-loop
+pixel-at-requires c κs = search needs
+
+mul-slots : tie.Need-mul-slots Inv-loop μ-loop
+mul-slots c = search needs
+
+array-set-from-slots : tie.Need-array-set-from-slots Inv-loop μ-loop
+array-set-from-slots c = search needs
+
+add-i : tie.Need-add-i Inv-loop μ-loop
+add-i c = search needs
+
+loop-less : tie.Need-loop-less Inv-loop μ-loop
+loop-less c = search needs
+
+loop-again : tie.Need-loop-again Inv-loop μ-loop
+loop-again c =
+    let l = c .before .before .loop in
+    let v = c .pixel-at in (
+      omega arith,
+      simp length-set (l .inv .1),
+      rw (add-one, take-suc-set (l .slots) (l .i) (v .result) (omega arith))
+          (ap (λ (xs : List Pixel). xs ++ (v .result ∷ [])) (l .inv .2) ∙ rw (v .ensures) (sym (pixels-more (l .i) _))),
+    )
+
+returns : tie.Need-returns Inv-loop μ-loop
+returns c =
+    let l = c .before .loop in
+    let all : l .i ≡ 64 = omega arith in
+    sym (take-all 64 (l .slots) (omega arith)) ∙ (rw all at (l .inv .2))
+
+pub slots-from-spec : {M : Type 1} → statement M
+slots-from-spec =
+    tie.close
+    (tie.spec
+    Inv-loop
+    μ-loop
+    clear-requires
+    loop-holds
+    mul-pixel-at
+    pixel-at-requires
+    mul-slots
+    array-set-from-slots
+    add-i
+    loop-less
+    loop-again
+    returns)
