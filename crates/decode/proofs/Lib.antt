@@ -1,3 +1,2 @@
 -- The laws behind the decode.
-pub mod Ends
 pub mod Whole

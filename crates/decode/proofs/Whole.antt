@@ -14,8 +14,8 @@ use Rattle.pixel.specs.declared.types.Channels.the-variants.{Rgb, Rgba}
 use Rattle.pixel.specs.Types.{channelsNumber}
 use Rattle.header.specs.declared.Header.{Header}
 use Rattle.header.specs.Header.{dimensionsFit, pixelCount}
-use Rattle.header.proofs.Laws.{is-true, pixels-small}
-use Rattle.rules.specs.Reading.{Place, Answer, refused, closing, remaining, readingInto, startPlace, pasted}
+use Rattle.header.proofs.Laws.{is-true}
+use Rattle.rules.specs.Reading.{refused, closing, remaining, readingInto, startPlace, pasted}
 use Rattle.rules.specs.Decode.{decoder, writtenOver}
 use Rattle.rules.proofs.PlaceLaws.{shaped-start}
 use Rattle.walk.specs.Walking.{Walk, fits, walking, walkingInto}

@@ -18,7 +18,8 @@ use Rattle.rules.proofs.ChunkLaws.{Sound}
 use Rattle.rules.proofs.PastingLaws.{take-pasted, drop-pasted, beyond-pasted, length-pasted}
 use Rattle.rules.proofs.ReadingLaws.{advances, stays-within}
 use Rattle.demands.specs.TakeOver.{bytesBefore}
-use Rattle.demands.proofs.Steps.{nextState, bytesBy, moveFrom, needed, Kind, kind, end-is-not-more, WentOn, went-on}
+use Rattle.rules.proofs.StepLaws.{nextState, bytesBy, moveFrom, needed, Kind, not-well, no-room, at-end, by-chunk, kind}
+use Rattle.demands.proofs.Steps.{end-is-not-more, WentOn, went-on}
 use Rattle.demands.proofs.Way.{whole, OnWay, within, uncut-whole, uncut-short, whole-ends, same-needed, reached, written-on, reaches-on, goes-on-way}
 
 -- what follows place k in the first k + j of a list

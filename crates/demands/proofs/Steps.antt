@@ -1,80 +1,22 @@
 -- Laws of steps and runs, of every state: what kinds of step there are, what a step keeps, that an end stays the end, and that runs add up.
 -- Assumes nothing.
 use mathlib.Core.Path.{_≡_, refl, sym, _∙_, ap}
-use mathlib.Core.Bool.{Bool, true, false, cond}
 use mathlib.Core.List.{List}
 use Prim.Native.Nat.{ℕ, zero, suc, _+_, _≤_, _<_}
 use native.Mathlib.Nat.{zero-add, suc-add, le-of-lt, mul-le-mul-right}
 use native.Mathlib.Omega.{arith}
-use borrow.Author.Tests.{ltb-true, ltb-false}
-use lib.Dec.{ltb}
 use lib.ListN.{length, take, drop}
 use lib.Seq.{take-take}
-use Rattle.pixel.specs.declared.error.Error.the-variants.{BadState, OutputBufferTooSmall}
 use Rattle.header.specs.Header.{pixelCount}
 use Rattle.rules.specs.Chunk.{Chunk}
-use Rattle.rules.specs.Reading.{Answer, refused, Move, sizeWanted, placeAfter, bytesOf, move}
+use Rattle.rules.specs.Reading.{Answer, Move}
 use Rattle.rules.specs.Decode.{decoder}
-use Rattle.rules.specs.Step.{State, wellFormed, Step, more, end, stepBy, step, steppedOver, ended, runOn, running}
+use Rattle.rules.specs.Step.{State, Step, more, end, step, steppedOver, ended, runOn, running}
 use Rattle.rules.proofs.ChunkLaws.{Sound}
 use Rattle.rules.proofs.PastingLaws.{before-pasted}
-use Rattle.rules.proofs.ReadingLaws.{Moved, moved, advances}
+use Rattle.rules.proofs.ReadingLaws.{advances}
+use Rattle.rules.proofs.StepLaws.{nextState, bytesBy, moveFrom, needed, Kind, not-well, no-room, at-end, by-chunk, kind}
 use Rattle.demands.specs.TakeOver.{bytesBefore, runningOn, outputOf}
-
--- the state after a chunk
-abbrev pub nextState : State → Chunk → State
-nextState s k =
-    record { header = s .header; wanted = s .wanted; place = placeAfter decoder (s .header) (s .wanted) (s .place) k }
-
--- the bytes that it writes
-abbrev pub bytesBy : State → Chunk → List ℕ
-bytesBy s k = bytesOf decoder (s .header) (s .wanted) (s .place) k
-
--- the decoder's move from a state
-abbrev pub moveFrom : List ℕ → State → Move
-moveFrom m s = move decoder (s .header) (s .wanted) m (s .place)
-
--- the bytes of the whole picture
-abbrev pub needed : State → ℕ
-needed s = sizeWanted (s .header) (s .wanted)
-
--- the kinds of step: 9, 7, the move's end, and a chunk
-pub data Kind (m : List ℕ) (s : State) (room : ℕ) : Step → Type 0 where
-  not-well : wellFormed s ≡ false → Kind m s room (end (refused BadState))
-  no-room : room < needed s → Kind m s room (end (refused (OutputBufferTooSmall room (needed s))))
-  at-end : (answer : Answer) → needed s ≤ room → moveFrom m s ≡ Move.end answer → Kind m s room (end answer)
-  by-chunk :
-      (k : Chunk) → needed s ≤ room → Sound (drop (s .place .at) m) k → s .place .pixel < pixelCount (s .header)
-      → moveFrom m s ≡ Move.more (nextState s k .place) (bytesBy s k) → Kind m s room (more (nextState s k) (bytesBy s k))
-
-module _ (m : List ℕ) (s : State) (room : ℕ) where
-  -- where there is room, a move is a step of one of two kinds
-  kind-moved :
-      (v : Move) → Moved decoder (s .header) (s .wanted) m (s .place) v → needed s ≤ room → moveFrom m s ≡ v
-      → Kind m s room (stepBy s v)
-  unfolding stepBy
-  kind-moved v (Moved.at-end answer) fits is = at-end answer fits is
-  kind-moved v (Moved.by-chunk k sound missing) fits is = by-chunk k fits sound missing is
-
-  -- every step is of one kind
-  pub kind : Kind m s room (step s m room)
-  unfolding step
-  kind = formed (wellFormed s) refl
-    where
-      roomy :
-          (b : Bool) → ltb room (needed s) ≡ b
-          → Kind m s room (cond b (end (refused (OutputBufferTooSmall room (needed s)))) (stepBy s (moveFrom m s)))
-      roomy true e = no-room (ltb-true _ _ e)
-      roomy false e = kind-moved (moveFrom m s) (moved decoder (s .header) (s .wanted) m (s .place)) (ltb-false _ _ e) refl
-
-      formed :
-          (b : Bool) → wellFormed s ≡ b
-          → Kind m s room
-          (cond b
-          (cond (ltb room (needed s)) (end (refused (OutputBufferTooSmall room (needed s)))) (stepBy s (moveFrom m s)))
-          (end (refused BadState)))
-      formed true e = roomy (ltb room (needed s)) refl
-      formed false e = not-well e
 
 -- an end does not go on
 pub end-is-not-more : {answer : Answer} {s : State} {bytes : List ℕ} → end answer ≡ more s bytes → ⊥

@@ -1,39 +1,36 @@
 -- The uncut decode's way: what holds of every state on it; a start is on it, a chunk leads along it, and where it ends the uncut decode ends.
 -- Assumes nothing.
 use mathlib.Core.Path.{_≡_, refl, sym, _∙_, ap}
-use mathlib.Core.Bool.{Bool, true, false, cond, not, _||_}
 use mathlib.Core.List.{List, _++_, append-nil}
 use Prim.Native.Nat.{ℕ, _+_, _^_, _≤_, _<_, zero-le}
 use native.Mathlib.Nat.{zero-mul}
 use native.Mathlib.Omega.{arith}
 use borrow.Author.Tests.{lt-ltb, le-ltb}
-use lib.Dec.{T, eqb, le→leb, leb→le}
+use lib.Dec.{T, le→leb, leb→le}
 use lib.ListN.{length, take, drop, length-append}
 use lib.Seq.{length-take-le, take-at}
-use Rattle.pixel.specs.declared.Pixel.{Pixel}
 use Rattle.pixel.specs.declared.error.Error.{Error}
 use Rattle.pixel.specs.declared.error.Error.the-variants.{OutputBufferTooSmall}
 use Rattle.pixel.specs.declared.types.Channels.{Channels}
 use Rattle.pixel.specs.declared.types.Channels.the-variants.{Rgb, Rgba}
 use Rattle.pixel.specs.declared.types.ChannelsRead.{ChannelsRead}
 use Rattle.pixel.specs.declared.types.ChannelsRead.the-variants as channels-read
-use Rattle.pixel.specs.Colour.{alpha, withAlpha}
 use Rattle.pixel.specs.Types.{channelsNumber, channelsFrom}
 use Rattle.header.specs.declared.Header.{Header}
 use Rattle.header.specs.declared.HeaderRead.{HeaderRead}
 use Rattle.header.specs.declared.HeaderRead.the-variants as header-read
 use Rattle.header.specs.Header.{pixelCount, headerOf}
 use Rattle.header.proofs.Laws.{header-accepted, sides-fit}
-use Rattle.rules.specs.Chunk.{Chunk, colourOf}
-use Rattle.rules.specs.Reading.{Answer, refused, Reading, Move, silent, after, readOn, startPlace, pixelAfter, placeAfter, remaining, readingInto, withWanted, withHeader, wholeReading}
-use Rattle.rules.specs.Decode.{decoder, decoderKeeps, decoding}
+use Rattle.rules.specs.Chunk.{Chunk}
+use Rattle.rules.specs.Reading.{Answer, refused, Reading, Move, silent, after, readOn, startPlace, remaining, readingInto, withWanted, withHeader, wholeReading}
+use Rattle.rules.specs.Decode.{decoder, decoding}
 use Rattle.rules.specs.Step.{State, Typed, alphaPasses, wantedPasses, wellFormed, Started, started, notStarted, startWanted, startHeader, starting}
 use Rattle.rules.proofs.ChunkLaws.{Sound}
 use Rattle.rules.proofs.PlaceLaws.{Shaped, shaped-start, shaped-next, pixel-reached, stays-inside}
-use Rattle.rules.proofs.ReadingLaws.{after-after, remaining-unfolds, stays-within}
+use Rattle.rules.proofs.ReadingLaws.{after-after, remaining-unfolds}
 use Rattle.rules.proofs.RecordLaws.{formed, forms, wanted-few}
 use Rattle.demands.specs.TakeOver.{bytesBefore}
-use Rattle.demands.proofs.Steps.{nextState, bytesBy, moveFrom, needed}
+use Rattle.rules.proofs.StepLaws.{nextState, bytesBy, moveFrom, needed, well-next}
 
 -- the state at the start of a picture
 abbrev pub startState : Header → ℕ → State
@@ -93,15 +90,6 @@ start-opaque : (header : Header) (c : Channels) → T (alphaPasses (startState h
 unfolding startPlace
 start-opaque header Rgb = tt
 start-opaque header Rgba = tt
-
--- with wanted 3 the fourth byte of what is kept is 255
-kept-opaque : (wanted : ℕ) (p : Pixel) → T (not (eqb wanted 3) || eqb (alpha (decoderKeeps wanted p)) 255)
-unfolding decoderKeeps
-kept-opaque wanted p = go (eqb wanted 3)
-  where
-    go : (b : Bool) → T (not b || eqb (alpha (cond b (withAlpha p 255) p)) 255)
-    go true = tt
-    go false = tt
 
 module _ (m : List ℕ) (w : ℕ) where
   -- the whole reading of the message
@@ -235,29 +223,14 @@ module _ (m : List ℕ) (w : ℕ) where
       pub reaches-on : bytesBefore s + length (bytesBy s k) ≤ length (whole .bytes)
       reaches-on = omega (arith, simp length-append at written-length, simp length-append at (ap (λ (r : Reading). length (r .bytes)) longer))
 
-      -- the state after it is well formed
-      well-on : T (wellFormed (nextState s k))
-      unfolding placeAfter pixelAfter
-      well-on =
-          let f = formed s (on .well) in
-          forms (nextState s k)
-          (record {
-            header-passes = f .header-passes;
-            wanted-passes = f .wanted-passes;
-            at-passes = le→leb 14 (nextState s k .place .at) (omega (arith, leb→le 14 (s .place .at) (f .at-passes)));
-            pixel-passes =
-                le→leb (nextState s k .place .pixel) (pixelCount (s .header)) (stays-within decoder (s .header) (s .wanted) (s .place) k within);
-            alpha-passes = kept-opaque (s .wanted) (colourOf (s .place .slots) (s .place .current) k);
-          })
-
-      -- and on the way
+      -- the state after it is on the way
       pub goes-on-way : OnWay (nextState s k)
       goes-on-way =
           let shape = shaped-next (s .header) (s .wanted) (s .place) k shaped sound in
           let inside′ = stays-inside (s .header) (s .wanted) m (s .place) k (on .inside) sound in
           record {
             opened = on .opened;
-            well = well-on;
+            well = well-next s k (on .well);
             typed =
                 record {
                   width-fits = on .typed .width-fits;

@@ -13,7 +13,7 @@ use Rattle.rules.specs.Step.{State, started, starting, more, end, step, stepped
 use Rattle.rules.specs.Record.{recordBytes, readRecord}
 use Rattle.demands.specs.TakeOver.{bytesBefore}
 use Rattle.demands.specs.Workers.{Partly, Crew, nobody, joins, takes-up, steps, stops-inside, Undisturbed}
-use Rattle.demands.proofs.Steps.{needed}
+use Rattle.rules.proofs.StepLaws.{needed}
 use Rattle.demands.proofs.Way.{OnWay, starts-on-way, starts-at-none, within, uncut-whole}
 use Rattle.demands.proofs.Held.{Held, ends-as-uncut, goes-as-uncut}
 use Rattle.demands.proofs.Partly.{held-partly}

@@ -4,3 +4,4 @@ pub mod PastingLaws
 pub mod PlaceLaws
 pub mod ReadingLaws
 pub mod RecordLaws
+pub mod StepLaws

@@ -1,7 +1,7 @@
 -- The loop over the chunks, for every number of wanted channels: what holds at its head, what a chunk makes of it, and how it ends.
 -- Assumes nothing.
 use mathlib.Core.Path.{_≡_, refl, sym, _∙_, ap, ap₂}
-use mathlib.Core.Bool.{Bool, true, cond}
+use mathlib.Core.Bool.{true, cond}
 use mathlib.Core.List.{List, [], _∷_, append-nil, map}
 use Prim.Native.Nat.{ℕ, zero, suc, _+_, _-_, _*_, _≤_, _<_, min}
 use native.Mathlib.Nat.{add-mul, mul-le-mul-right}
@@ -10,7 +10,6 @@ use borrow.Author.Tests.{lt-ltb, le-ltb}
 use lib.ListN.{length, getD, take, drop, set, length-set, length-drop, length-map}
 use lib.Seq.{length-take-le}
 use Rattle.pixel.specs.declared.Pixel.{Pixel}
-use Rattle.pixel.specs.declared.error.Error.the-variants.{UnexpectedBufferEnd}
 use Rattle.pixel.specs.declared.types.Channels.{Channels}
 use Rattle.pixel.specs.Colour.{clearPixel, slotOf}
 use Rattle.pixel.specs.Packed.{unpacked}
@@ -18,7 +17,7 @@ use Rattle.pixel.specs.Types.{channelsNumber}
 use Rattle.header.specs.declared.Header.{Header}
 use Rattle.header.specs.Header.{pixelCount}
 use Rattle.rules.specs.Chunk.{Chunk, cut, chunk, chunkAt, colourOf, timesOf, sizeOf, INDEX, RUN}
-use Rattle.rules.specs.Reading.{Place, refused, more, end, move, moveBy, pasted, repeated, pixelsBrought, pixelAfter, placeAfter, bytesOf}
+use Rattle.rules.specs.Reading.{Place, more, move, moveBy, pasted, repeated, pixelsBrought, pixelAfter, placeAfter, bytesOf}
 use Rattle.rules.specs.Decode.{decoder, decoderStores, decoderKeeps, decoderReadsRgba}
 use Rattle.rules.proofs.ChunkLaws.{Sound, SoundFound, something, sound-found}
 use Rattle.rules.proofs.PastingLaws.{whole-tail, length-pasted, repeated-length}
@@ -27,7 +26,7 @@ use Rattle.chunk.specs.declared.Colour.the-variants as colour
 use Rattle.chunk.specs.declared.Found.{Found}
 use Rattle.chunk.specs.declared.Found.the-variants as found
 use Rattle.chunk.specs.Found.{foundOf, chunkOf}
-use Rattle.walk.specs.Walking.{Walk, walking, standing, stopped}
+use Rattle.walk.specs.Walking.{walking, standing, stopped}
 use Rattle.walk.specs.Inner.{threeBytes, fourBytes}
 
 -- an array's length is that of what its elements are mapped to

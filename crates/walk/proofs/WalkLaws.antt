@@ -2,11 +2,11 @@
 -- Assumes nothing.
 use mathlib.Core.Path.{_≡_, refl, sym, _∙_, ap}
 use mathlib.Core.Bool.{Bool, true, false, cond}
-use mathlib.Core.List.{List, [], _++_}
+use mathlib.Core.List.{List}
 use Prim.Native.Nat.{ℕ, zero, suc, _+_, _-_, _*_, _≤_, _<_}
-use native.Mathlib.Nat.{add-mul, mul-le-mul-right}
+use native.Mathlib.Nat.{add-mul}
 use native.Mathlib.Omega.{arith}
-use borrow.Author.Tests.{ltb-true, ltb-false, le-ltb, lt-ltb}
+use borrow.Author.Tests.{ltb-true, ltb-false, lt-ltb}
 use lib.Dec.{ltb}
 use lib.ListN.{length, drop}
 use Rattle.pixel.specs.declared.error.Error.the-variants.{UnexpectedBufferEnd}
@@ -20,7 +20,7 @@ use Rattle.rules.proofs.ChunkLaws.{Sound, SoundFound, something, sound-found}
 use Rattle.rules.proofs.ReadingLaws.{remaining-unfolds, moved-last, stays-within, advances, reading-size}
 use Rattle.rules.proofs.PlaceLaws.{Shaped, shaped-next, pixel-reached, stays-inside}
 use Rattle.rules.proofs.PastingLaws.{length-pasted, pasted-next, pasted-none}
-use Rattle.walk.specs.Walking.{Walk, walking, standing, stopped}
+use Rattle.walk.specs.Walking.{Walk, walking}
 use Rattle.walk.proofs.Loop.{standing-still}
 
 module _ (header : Header) (wanted : ℕ) (message : List ℕ) (from : ℕ) where

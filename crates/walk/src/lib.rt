@@ -1,9 +1,5 @@
 // The chunks of a decode, from any place and at most so many: the loops that the whole decode and a run share.
 ghost use mathlib.Core.Path.{_≡_};
-ghost use mathlib.Core.Bool.{_&&_};
-ghost use Prim.Native.Nat.{_+_};
-ghost use lib.Dec.{leb};
-ghost use lib.ListN.{length};
 ghost use Rattle.pixel.specs.Types.{channelsNumber};
 ghost use Rattle.walk.specs.Walking.{placeOf, walkOf, fits, walkingInto};
 use header::Header;

@@ -2,7 +2,7 @@
 -- Assumes nothing.
 use borrow.Author.Needs.{needs}
 use Rattle.rules.proofs.PastingLaws.{whole-tail}
-use Rattle.decode.proofs.Ends.{closing-by}
+use Rattle.chunk.proofs.Ends.{closing-by}
 use Rattle.decode.proofs.inner.close.Statement.{statement}
 use Rattle.decode.proofs.inner.close.Tie as tie
 

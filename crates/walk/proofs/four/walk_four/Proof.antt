@@ -1,6 +1,6 @@
 -- `walk::four::walk_four` meets its contract: at the loop's head what is left to walk is what was to be walked from the first place.
 -- Assumes nothing.
-use mathlib.Core.Path.{_≡_, refl, sym, _∙_, ap, ap₂}
+use mathlib.Core.Path.{_≡_, refl, sym, ap₂}
 use Prim.Native.Nat.{ℕ, _-_, _≤_}
 use Prim.{tt}
 use native.Mathlib.Nat.{lt-of-le-of-lt}
@@ -8,7 +8,6 @@ use native.Mathlib.Omega.{arith}
 use lib.Dec.{lit<}
 use lib.ListN.{length}
 use borrow.Author.Needs.{needs}
-use Rattle.pixel.specs.declared.Pixel.{Pixel}
 use Rattle.pixel.specs.Packed.{unpacked}
 use Rattle.header.specs.Header.{pixelCount}
 use Rattle.header.proofs.Laws.{pixels-small}

@@ -1,0 +1,2 @@
+-- The laws of crate `chunk`.
+pub mod Ends
