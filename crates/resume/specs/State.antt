@@ -4,9 +4,12 @@ use Rattle.header.specs.declared.Header.{Header}
 use Rattle.header.specs.Header.{defaultHeader}
 use Rattle.rules.specs.Reading.{startPlace}
 use Rattle.rules.specs.Step.{State, Started, started, notStarted}
+use Rattle.rules.specs.Record.{Recorded, recorded, notRecorded}
 use Rattle.resume.specs.declared.Decoder.{Decoder}
 use Rattle.resume.specs.declared.StartAnswer.{StartAnswer}
 use Rattle.resume.specs.declared.StartAnswer.the-variants.{Ok, Refused}
+use Rattle.resume.specs.declared.Written.{Written}
+use Rattle.resume.specs.declared.Written.the-variants as written
 
 -- the state that a decoder holds, field by field
 abbrev pub stateOf : Decoder → State
@@ -34,3 +37,8 @@ startAnswer (notStarted e) = Refused e
 abbrev pub stateAfter : State → Started → State
 stateAfter old (started s) = s
 stateAfter old (notStarted e) = old
+
+-- a record's length, or the refusal
+abbrev pub writtenAnswer : Recorded → Written
+writtenAnswer (recorded size) = written.Done size
+writtenAnswer (notRecorded e) = written.Refused e

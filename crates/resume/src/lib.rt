@@ -1,17 +1,20 @@
 // A decode as a state that moves on by value: where it stands, a start, and the record that another worker takes up.
 ghost use mathlib.Core.Path.{_≡_};
+ghost use lib.ListN.{length};
 ghost use Rattle.rules.specs.Step.{starting};
-ghost use Rattle.rules.specs.Record.{readRecord};
-ghost use Rattle.resume.specs.State.{stateOf, idleState, startAnswer, stateAfter};
+ghost use Rattle.rules.specs.Record.{readRecord, recordBytes, recording, recordedOver};
+ghost use Rattle.resume.specs.State.{stateOf, idleState, startAnswer, stateAfter, writtenAnswer};
 use header::Header;
 use header::HeaderRead;
 use pixel::Pixel;
+use pixel::consts::QOI_HEADER_SIZE;
 use pixel::error::Error;
 use pixel::types::Channels;
 
 mod form;
 mod opening;
 mod reader;
+mod writer;
 
 pub type Slots = [Pixel; 64];
 
@@ -37,6 +40,11 @@ pub enum StartAnswer {
 pub struct Started {
     pub answer: StartAnswer,
     pub decoder: Decoder,
+}
+
+pub enum Written {
+    Done { size: usize },
+    Refused(Error),
 }
 
 impl Decoder {
@@ -67,5 +75,33 @@ impl Decoder {
             HeaderRead::Refused(e) => opening::refused(self, e),
             HeaderRead::Ok(header) => reader::read_wanted(self, header, &record[14..]),
         }
+    }
+
+    // Writes the record of the state; bytes after it stay.
+    pub fn write_record(self, out: &mut [u8]) -> Written
+        ensures { λ r. ⌜ (r ≡ writtenAnswer (recording (stateOf self) (length (now (out .entry))))) × (now (out .exit) ≡ recordedOver (stateOf self) (now (out .entry))) ⌝ }
+    {
+        if !form::well_formed(self) {
+            return Written::Refused(Error::BadState);
+        }
+        let required = self.record_len();
+        if out.len() < required {
+            return Written::Refused(Error::OutputBufferTooSmall {
+                size: out.len(),
+                required,
+            });
+        }
+        writer::put_record(out, self);
+        Written::Done { size: required }
+    }
+
+    // The bytes that the record takes.
+    pub fn record_len(self) -> usize
+        ensures { λ r. ⌜ r ≡ length (recordBytes (stateOf self)) ⌝ }
+    {
+        let numbers = number::len(self.wanted)
+            + number::len(self.at as u64)
+            + number::len(self.pixel as u64);
+        QOI_HEADER_SIZE + numbers + 260
     }
 }

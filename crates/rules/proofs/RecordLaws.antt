@@ -34,11 +34,11 @@ four-read (a ∷ b ∷ c ∷ d ∷ []) rest e = refl
 four-read (a ∷ b ∷ c ∷ d ∷ x ∷ xs) rest e = absurd (omega (arith, e))
 
 -- each of some pixels has four bytes
-abbrev Fours : List Pixel → Type 0
+abbrev pub Fours : List Pixel → Type 0
 Fours ps = (i : ℕ) → i < length ps → length (getD ps i clearPixel .rgba) ≡ 4
 
 -- pixels of four bytes take four bytes each
-pixels-length : (ps : List Pixel) → Fours ps → length (pixelsBytes ps) ≡ 4 * length ps
+pub pixels-length : (ps : List Pixel) → Fours ps → length (pixelsBytes ps) ≡ 4 * length ps
 unfolding pixelsBytes
 pixels-length [] each = refl
 pixels-length (p ∷ ps) each =

@@ -1,0 +1,60 @@
+-- `resume::Decoder::record_len` meets its contract: fourteen bytes, three numbers, and four bytes for each of 65 pixels.
+-- Assumes nothing.
+use borrow.Author.Needs.{needs}
+use Rattle.resume.proofs.Decoder.record_len.Statement.{statement}
+use Rattle.resume.proofs.Decoder.record_len.Tie as tie
+use native.Mathlib.Omega.{arith}
+use Rattle.number.proofs.Laws.{length-at-most-ten}
+use Rattle.rules.proofs.RecordLaws.{pixels-length}
+use Rattle.resume.proofs.Owned.{typed}
+use mathlib.Core.Path.{_≡_}
+use Prim.Native.Nat.{_*_}
+use lib.ListN.{length}
+use Rattle.rules.specs.Record.{pixelsBytes}
+use Rattle.resume.specs.State.{stateOf}
+use Rattle.resume.proofs.Parts.{record-parts}
+
+len-requires : tie.Need-len-requires
+len-requires c κs = search needs
+
+len-requires-2 : tie.Need-len-requires-2
+len-requires-2 c κs = search needs
+
+add-numbers : tie.Need-add-numbers
+add-numbers c =
+    record { fits = omega (arith, c .before .len .ensures, c .len2 .ensures, length-at-most-ten (c .before .before .args .self .wanted), length-at-most-ten (c .before .before .args .self .at)) }
+
+len-requires-3 : tie.Need-len-requires-3
+len-requires-3 c κs = search needs
+
+add-numbers-2 : tie.Need-add-numbers-2
+add-numbers-2 c =
+    record { fits = omega (arith, c .before .before .len .ensures, c .before .len2 .ensures, c .len3 .ensures, length-at-most-ten (c .before .before .before .args .self .wanted), length-at-most-ten (c .before .before .before .args .self .at), length-at-most-ten (c .before .before .before .args .self .pixel)) }
+
+add-result : tie.Need-add-result
+add-result c =
+    record { fits = omega (arith, c .before .before .len .ensures, c .before .len2 .ensures, c .len3 .ensures, length-at-most-ten (c .before .before .before .args .self .wanted), length-at-most-ten (c .before .before .before .args .self .at), length-at-most-ten (c .before .before .before .args .self .pixel)) }
+
+add-result-2 : tie.Need-add-result-2
+add-result-2 c =
+    record { fits = omega (arith, c .before .before .len .ensures, c .before .len2 .ensures, c .len3 .ensures, length-at-most-ten (c .before .before .before .args .self .wanted), length-at-most-ten (c .before .before .before .args .self .at), length-at-most-ten (c .before .before .before .args .self .pixel)) }
+
+returns : tie.Need-returns
+returns c =
+    let d = c .before .before .before .args .self in
+    let is = typed d _ (c .before .before .before .good .0) in
+    let many : length (pixelsBytes (d .slots)) ≡ 4 * length (d .slots) = pixels-length (d .slots) (λ i h. is .slot-is i (omega (arith, is .slots-are))) in
+    omega (arith, record-parts (stateOf d), c .before .before .len .ensures, c .before .len2 .ensures, c .len3 .ensures, many, is .current-is, is .slots-are)
+
+pub record-len-spec : {M : Type 1} → statement M
+record-len-spec =
+    tie.close
+    (tie.spec
+    len-requires
+    len-requires-2
+    add-numbers
+    len-requires-3
+    add-numbers-2
+    add-result
+    add-result-2
+    returns)

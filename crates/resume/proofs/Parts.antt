@@ -1,0 +1,64 @@
+-- Parts of a record put one after another into an output.
+-- Assumes nothing.
+use mathlib.Core.Path.{_≡_}
+use mathlib.Core.List.{List, [], _∷_, _++_, append-nil, append-assoc}
+use Prim.Native.Nat.{ℕ, suc, _+_, _-_, _≤_}
+use native.Mathlib.Omega.{arith}
+use lib.ListN.{length, take, drop, set, length-append}
+use lib.Seq.{drop-drop, drop-length}
+use borrow.Author.Tests.{le-leb}
+use borrow.Rule.Slice.PartMut.{putMid, post-is}
+use Rattle.number.specs.Seven.{sevenBits, writtenNumber}
+use Rattle.header.specs.Header.{headerBytes}
+use Rattle.header.proofs.Laws.{header-length}
+use Rattle.rules.specs.Reading.{pasted}
+use Rattle.rules.specs.Step.{State}
+use Rattle.rules.specs.Record.{pixelsBytes, recordBytes}
+use Rattle.rules.proofs.PastingLaws.{whole-tail, stored, pasted-next}
+
+-- a byte stored, and then those after it
+pub stored-next :
+    (out : List ℕ) (at byte : ℕ) (rest : List ℕ) → at + suc (length rest) ≤ length out
+    → pasted (at + 1) rest (set out at byte) ≡ pasted at (byte ∷ rest) out
+stored-next out at byte rest fits =
+    rw (stored (byte ∷ []) out at (omega arith)) (pasted-next out at (byte ∷ []) rest (omega arith))
+
+-- a part put, and then the one after it
+pub put-next :
+    (out out′ : List ℕ) (at next : ℕ) (x y : List ℕ) → out′ ≡ pasted at x out → next ≡ at + length x
+    → at + length x + length y ≤ length out → pasted next y out′ ≡ pasted at (x ++ y) out
+put-next out out′ at next x y is follows fits = rw (is, follows) (pasted-next out at x y fits)
+
+-- a number with room is written
+pub number-written :
+    (value : ℕ) (out : List ℕ) → length (sevenBits value) ≤ length out
+    → writtenNumber value out ≡ sevenBits value ++ drop (length (sevenBits value)) out
+unfolding writtenNumber
+number-written value out fits = rw (le-leb (length (sevenBits value)) (length out) fits)
+
+-- the part from a place on, with bytes put at its front, back in its place
+pub put-back :
+    (out : List ℕ) (at : ℕ) (bytes : List ℕ) → at ≤ length out
+    → putMid at (length out - at) out (bytes ++ drop (length bytes) (take (length out - at) (drop at out))) ≡ pasted at bytes out
+put-back out at bytes within =
+    rw (post-is at (length out) out within, whole-tail out at, drop-drop (length bytes) at out, drop-length out, append-nil)
+
+module _ (s : State) where
+  -- the bytes of the three numbers, and those of the pixels
+  abbrev pub numbersOf : List ℕ
+  numbersOf = sevenBits (s .wanted) ++ (sevenBits (s .place .at) ++ sevenBits (s .place .pixel))
+
+  abbrev pub pixelsOf : List ℕ
+  pixelsOf = s .place .current .rgba ++ pixelsBytes (s .place .slots)
+
+  -- header, numbers and pixels are the record
+  pub record-joined : headerBytes (s .header) ++ (numbersOf ++ pixelsOf) ≡ recordBytes s
+  unfolding recordBytes
+  record-joined = simp append-assoc
+
+  -- the record is as long as its parts
+  pub record-parts :
+      length (recordBytes s)
+      ≡ 14 + length (sevenBits (s .wanted)) + length (sevenBits (s .place .at)) + length (sevenBits (s .place .pixel)) + length (s .place .current .rgba) + length (pixelsBytes (s .place .slots))
+  unfolding recordBytes
+  record-parts = simp (length-append, header-length (s .header)) (omega arith)

@@ -1,0 +1,43 @@
+-- `resume::writer::put_numbers` meets its contract: each number is put where the one before it ended.
+-- Assumes nothing.
+use borrow.Author.Needs.{needs}
+use Rattle.resume.proofs.writer.put_numbers.Statement.{statement}
+use Rattle.resume.proofs.writer.put_numbers.Tie as tie
+use mathlib.Core.Path.{_∙_}
+use mathlib.Core.List.{_++_}
+use native.Mathlib.Omega.{arith}
+use lib.ListN.{length-append}
+use Rattle.number.specs.Seven.{sevenBits}
+use Rattle.resume.proofs.Parts.{put-next}
+
+put-number-requires : tie.Need-put-number-requires
+put-number-requires c κs = search needs
+
+put-number-requires-2 : tie.Need-put-number-requires-2
+put-number-requires-2 c κs = search needs
+
+put-number-requires-3 : tie.Need-put-number-requires-3
+put-number-requires-3 c κs = search needs
+
+same-length : tie.Need-same-length
+same-length c = search needs
+
+returns : tie.Need-returns
+returns c =
+    let a = c .before .before .before .before .before .before .before .before .before .before .before .before .before .args in
+    let first = c .before .before .before .before .before .before .before .before .before .before .put-number in
+    let second = c .before .before .before .before .before .before .put-number2 in
+    let third = c .before .before .put-number3 in
+    let one = first .ensures .0 in
+    let two = second .ensures .0 in
+    let kept = first .kept .0 in (
+      simp length-append (omega (arith, third .ensures .0)),
+      third .ensures .1
+          ∙ put-next (first .last .0) (second .last .0) (first .result) (second .result) (sevenBits (a .b)) (sevenBits (a .c)) (second .ensures .1) two (omega arith)
+          ∙ put-next (a .out .now) (first .last .0) (a .start) (first .result) (sevenBits (a .a)) (sevenBits (a .b) ++ sevenBits (a .c)) (first .ensures .1) one (simp length-append (omega arith)),
+    )
+
+pub put-numbers-spec : {M : Type 1} → statement M
+put-numbers-spec =
+    tie.close
+    (tie.spec put-number-requires put-number-requires-2 put-number-requires-3 same-length returns)

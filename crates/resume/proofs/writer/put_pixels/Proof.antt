@@ -1,0 +1,28 @@
+-- `resume::writer::put_pixels` meets its contract: the slots are put where the current pixel ended.
+-- Assumes nothing.
+use borrow.Author.Needs.{needs}
+use Rattle.resume.proofs.writer.put_pixels.Statement.{statement}
+use Rattle.resume.proofs.writer.put_pixels.Tie as tie
+use mathlib.Core.Path.{_∙_}
+use native.Mathlib.Omega.{arith}
+use Rattle.rules.specs.Record.{pixelsBytes}
+use Rattle.resume.proofs.Parts.{put-next}
+
+put-pixel-requires : tie.Need-put-pixel-requires
+put-pixel-requires c κs = search needs
+
+put-slots-requires : tie.Need-put-slots-requires
+put-slots-requires c κs = search needs
+
+same-length : tie.Need-same-length
+same-length c = search needs
+
+returns : tie.Need-returns
+returns c =
+    let a = c .before .before .before .before .before .before .before .before .before .args in
+    let first = c .before .before .before .before .before .before .put-pixel in
+    c .before .before .put-slots .ensures
+    ∙ put-next (a .out .now) (first .last .0) (a .start) (first .result) (a .current .rgba) (pixelsBytes (a .slots)) (first .ensures .1) (first .ensures .0) (omega arith)
+
+pub put-pixels-spec : {M : Type 1} → statement M
+put-pixels-spec = tie.close (tie.spec put-pixel-requires put-slots-requires same-length returns)
