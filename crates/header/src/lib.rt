@@ -217,7 +217,7 @@ fn product(width: u32, height: u32) -> usize
 }
 
 // A product that stops at 2^64-1.
-fn saturating_mul(a: usize, b: usize) -> usize
+pub fn saturating_mul(a: usize, b: usize) -> usize
     ensures { λ r. ⌜ r ≡ saturated (a * b) ⌝ }
 {
     if b == 0 {

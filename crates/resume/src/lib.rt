@@ -1,6 +1,8 @@
 // A decode as a state that moves on by value: where it stands, a start, and the record that another worker takes up.
 ghost use mathlib.Core.Path.{_≡_};
 ghost use lib.ListN.{length};
+ghost use Rattle.header.specs.Header.{saturated};
+ghost use Rattle.rules.specs.Reading.{sizeWanted};
 ghost use Rattle.rules.specs.Step.{starting};
 ghost use Rattle.rules.specs.Record.{readRecord, recordBytes, recording, recordedOver};
 ghost use Rattle.resume.specs.State.{stateOf, idleState, startAnswer, stateAfter, writtenAnswer};
@@ -103,5 +105,26 @@ impl Decoder {
             + number::len(self.at as u64)
             + number::len(self.pixel as u64);
         QOI_HEADER_SIZE + numbers + 260
+    }
+
+    pub fn header(self) -> Header
+        ensures { λ r. ⌜ r ≡ self .header ⌝ }
+    {
+        self.header
+    }
+
+    // The channels wanted.
+    pub fn channels(self) -> u64
+        ensures { λ r. ⌜ r ≡ self .wanted ⌝ }
+    {
+        self.wanted
+    }
+
+    // The bytes of the whole picture, saturating.
+    pub fn required_buf_len(self) -> usize
+        ensures { λ r. ⌜ r ≡ saturated (sizeWanted (self .header) (self .wanted)) ⌝ }
+    {
+        let header = self.header;
+        header::saturating_mul(header.n_pixels(), self.wanted as usize)
     }
 }
