@@ -1,10 +1,14 @@
 -- What the crate's own parts ask of one another; nothing that a public contract cites.
 use mathlib.Core.Path.{_≡_}
 use mathlib.Core.List.{List}
-use Prim.Native.Nat.{ℕ}
+use mathlib.Core.Bool.{_||_}
+use Prim.Native.Nat.{ℕ, _≤_}
+use lib.Dec.{T, eqb}
+use lib.ListN.{length}
 use Rattle.number.specs.Seven.{readNumber}
 use Rattle.header.specs.declared.Header.{Header}
-use Rattle.rules.specs.Step.{Started}
+use Rattle.rules.specs.Reading.{sizeWanted}
+use Rattle.rules.specs.Step.{State, wellFormed, Started}
 use Rattle.rules.specs.Record.{withNumber, readSlots}
 use Rattle.resume.specs.declared.Decoder.{Decoder}
 use Rattle.resume.specs.declared.Started as code
@@ -22,3 +26,14 @@ fromPixel header wanted at bytes =
 -- a record from its byte position on
 abbrev pub fromAt : Header → ℕ → List ℕ → Started
 fromAt header wanted bytes = withNumber bytes (readNumber bytes) (fromPixel header wanted)
+
+-- wanted is 3 or 4
+abbrev pub WantedFits : ℕ → Type 0
+WantedFits wanted = T (eqb wanted 3 || eqb wanted 4)
+
+-- a state that a run goes on from: well formed, with room for the picture, its byte position within the message
+pub record Ready (s : State) (message out : List ℕ) (required : ℕ) : Type 0 where
+  pub well : T (wellFormed s)
+  pub counted : required ≡ sizeWanted (s .header) (s .wanted)
+  pub room : required ≤ length out
+  pub inside : s .place .at ≤ length message

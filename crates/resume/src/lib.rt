@@ -3,8 +3,9 @@ ghost use mathlib.Core.Path.{_≡_};
 ghost use lib.ListN.{length};
 ghost use Rattle.header.specs.Header.{saturated};
 ghost use Rattle.rules.specs.Reading.{sizeWanted};
-ghost use Rattle.rules.specs.Step.{starting};
+ghost use Rattle.rules.specs.Step.{starting, going, step, runOn, running};
 ghost use Rattle.rules.specs.Record.{readRecord, recordBytes, recording, recordedOver};
+ghost use Rattle.resume.specs.Run.{ranOf};
 ghost use Rattle.resume.specs.State.{stateOf, idleState, startAnswer, stateAfter, writtenAnswer};
 use header::Header;
 use header::HeaderRead;
@@ -16,6 +17,7 @@ use pixel::types::Channels;
 mod form;
 mod opening;
 mod reader;
+mod running;
 mod writer;
 
 pub type Slots = [Pixel; 64];
@@ -41,6 +43,20 @@ pub enum StartAnswer {
 // The answer, and the state to go on with: the old one after a refusal.
 pub struct Started {
     pub answer: StartAnswer,
+    pub decoder: Decoder,
+}
+
+pub enum StepAnswer {
+    // There is more to do.
+    More,
+    // Bytes written by the whole decode, and message bytes used.
+    Done { size: usize, used: usize },
+    Refused(Error),
+}
+
+// The answer, and the state to go on with: an end leaves it.
+pub struct Stepped {
+    pub answer: StepAnswer,
     pub decoder: Decoder,
 }
 
@@ -77,6 +93,20 @@ impl Decoder {
             HeaderRead::Refused(e) => opening::refused(self, e),
             HeaderRead::Ok(header) => reader::read_wanted(self, header, &record[14..]),
         }
+    }
+
+    // One chunk (one pixel for an ff that is not consumed) or, with no pixel left, the marker test.
+    pub fn step(self, message: &[u8], out: &mut [u8]) -> Stepped
+        ensures { λ r. ⌜ ranOf r (now (out .exit)) ≡ runOn going (stateOf self) (now (out .entry)) (step (stateOf self) (now (message .entry)) (length (now (out .entry)))) ⌝ }
+    {
+        running::run(self, message, out, 1)
+    }
+
+    // At most so many steps: what a worker does between two checkpoints.
+    pub fn run(self, message: &[u8], out: &mut [u8], steps: u64) -> Stepped
+        ensures { λ r. ⌜ ranOf r (now (out .exit)) ≡ running (now (message .entry)) steps (stateOf self) (now (out .entry)) ⌝ }
+    {
+        running::run(self, message, out, steps)
     }
 
     // Writes the record of the state; bytes after it stay.
