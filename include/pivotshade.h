@@ -21,6 +21,18 @@ uint64_t pivotshade_header(const uint8_t *msg, size_t len, uint64_t figures[4]);
    chunks done, after 8 every pixel; no other byte of out changes. */
 uint64_t pivotshade_decode(const uint8_t *msg, size_t len, uint64_t wanted, uint8_t *out, size_t out_len, uint64_t figures[4]);
 
+/* Starts a decode that can be taken over, and writes its record (at most PIVOTSHADE_RECORD_MAX bytes): the record's length. After a refusal
+   record is as it was. */
+#define PIVOTSHADE_RECORD_MAX 290
+uint64_t pivotshade_start(const uint8_t *msg, size_t len, uint64_t wanted, uint8_t *record, size_t record_len, uint64_t figures[4]);
+
+/* Takes up a record, on an output that holds before the record's pixel what it held when the record was written, and does at most so many
+   steps. 0: the decode ended, with decode's figures. PIVOTSHADE_MORE: there is more to do; next holds the next record, and its length is the
+   first figure. An end leaves next as it was. No byte of out before the record's pixel is written. */
+#define PIVOTSHADE_MORE 256
+uint64_t pivotshade_run(const uint8_t *msg, size_t len, const uint8_t *record, size_t record_len, uint8_t *out, size_t out_len, uint64_t steps,
+                        uint8_t *next, size_t next_len, uint64_t figures[4]);
+
 #ifdef __cplusplus
 }
 #endif

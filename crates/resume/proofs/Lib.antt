@@ -1,4 +1,5 @@
 -- The laws behind the record's reader and writer, and of runs.
+pub mod Answers
 pub mod Owned
 pub mod Parts
 pub mod RunLaws

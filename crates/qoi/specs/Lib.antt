@@ -1,0 +1,2 @@
+-- The definitions of crate `qoi`.
+pub mod Hosted
