@@ -1,8 +1,8 @@
 -- What owning a decoder tells of its state: numbers that fit, four bytes a pixel, 64 slots.
 -- Assumes nothing.
+use Prim.Native.Nat.{ℕ, zero, suc, _<_}
 use mathlib.Core.Path.{_≡_, _∙_, sym}
 use mathlib.Core.List.{List, [], _∷_, map}
-use Prim.Native.Nat.{ℕ, zero, suc, _<_}
 use native.Mathlib.Omega.{arith}
 use lib.ListN.{length, getD, length-map}
 use mir.Val.{Val}

@@ -1,8 +1,8 @@
 -- Parts of a record put one after another into an output.
 -- Assumes nothing.
+use Prim.Native.Nat.{ℕ, suc, _+_, _-_, _≤_}
 use mathlib.Core.Path.{_≡_}
 use mathlib.Core.List.{List, [], _∷_, _++_, append-nil, append-assoc}
-use Prim.Native.Nat.{ℕ, suc, _+_, _-_, _≤_}
 use native.Mathlib.Omega.{arith}
 use lib.ListN.{length, take, drop, set, length-append}
 use lib.Seq.{drop-drop, drop-length}
@@ -44,10 +44,11 @@ put-back out at bytes within =
     rw (post-is at (length out) out within, whole-tail out at, drop-drop (length bytes) at out, drop-length out, append-nil)
 
 module _ (s : State) where
-  -- the bytes of the three numbers, and those of the pixels
+  -- the bytes of the three numbers
   abbrev pub numbersOf : List ℕ
   numbersOf = sevenBits (s .wanted) ++ (sevenBits (s .place .at) ++ sevenBits (s .place .pixel))
 
+  -- and those of the pixels
   abbrev pub pixelsOf : List ℕ
   pixelsOf = s .place .current .rgba ++ pixelsBytes (s .place .slots)
 

@@ -1,8 +1,8 @@
 -- Slots read and written one after another.
 -- Assumes nothing.
+use Prim.Native.Nat.{ℕ, zero, suc, _+_, _*_, _<_}
 use mathlib.Core.Path.{_≡_, refl, ap, _∙_}
 use mathlib.Core.List.{List, [], _∷_, _++_}
-use Prim.Native.Nat.{ℕ, zero, suc, _+_, _*_, _<_}
 use native.Mathlib.Omega.{arith}
 use lib.ListN.{length, getD, drop, length-append}
 use lib.Seq.{drop-cons, drop-drop}
@@ -19,7 +19,7 @@ pixels-more (suc n) bytes =
     ap {B = List Pixel} (λ l. pixelFrom 4 bytes ∷ l)
     (pixels-more n (drop 4 bytes) ∙ rw (drop-drop (n * 4) 4 bytes, further))
 
--- what a pixel that is past the last has: nothing
+-- what stands past the last pixel of a list
 abbrev pub noPixel : Pixel
 noPixel = record { rgba = [] }
 

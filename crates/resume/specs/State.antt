@@ -1,4 +1,5 @@
 -- What a decoder's fields and the answers of its functions mean: a state, a start and a record of the rules.
+use mathlib.Core.Path.{_≡_, ap}
 use Prim.Native.Nat.{ℕ}
 use Rattle.header.specs.declared.Header.{Header}
 use Rattle.header.specs.Header.{defaultHeader}
@@ -42,3 +43,19 @@ stateAfter old (notStarted e) = old
 abbrev pub writtenAnswer : Recorded → Written
 writtenAnswer (recorded size) = written.Done size
 writtenAnswer (notRecorded e) = written.Refused e
+
+-- the decoder that holds a state
+abbrev decoderOf : State → Decoder
+decoderOf s =
+    record {
+      header = s .header;
+      wanted = s .wanted;
+      at = s .place .at;
+      pixel = s .place .pixel;
+      current = s .place .current;
+      slots = s .place .slots;
+    }
+
+-- two decoders that hold the same state are the same
+pub state-determined : (a b : Decoder) → stateOf a ≡ stateOf b → a ≡ b
+state-determined a b same = ap decoderOf same

@@ -1,18 +1,18 @@
 -- `resume::Decoder::record_len` meets its contract: fourteen bytes, three numbers, and four bytes for each of 65 pixels.
 -- Assumes nothing.
-use borrow.Author.Needs.{needs}
-use Rattle.resume.proofs.Decoder.record_len.Statement.{statement}
-use Rattle.resume.proofs.Decoder.record_len.Tie as tie
+use Prim.Native.Nat.{_*_}
+use mathlib.Core.Path.{_≡_}
 use native.Mathlib.Omega.{arith}
+use lib.ListN.{length}
+use borrow.Author.Needs.{needs}
 use Rattle.number.proofs.Laws.{length-at-most-ten}
 use Rattle.rules.proofs.RecordLaws.{pixels-length}
-use Rattle.resume.proofs.Owned.{typed}
-use mathlib.Core.Path.{_≡_}
-use Prim.Native.Nat.{_*_}
-use lib.ListN.{length}
 use Rattle.rules.specs.Record.{pixelsBytes}
 use Rattle.resume.specs.State.{stateOf}
+use Rattle.resume.proofs.Owned.{typed}
 use Rattle.resume.proofs.Parts.{record-parts}
+use Rattle.resume.proofs.Decoder.record_len.Statement.{statement}
+use Rattle.resume.proofs.Decoder.record_len.Tie as tie
 
 len-requires : tie.Need-len-requires
 len-requires c κs = search needs

@@ -1,9 +1,9 @@
 -- `resume::Decoder::start` meets its contract: the header's answer leads to the case of the definition.
 -- Assumes nothing.
 use borrow.Author.Needs.{needs}
+use Rattle.rules.specs.Step.{starting, startHeader}
 use Rattle.resume.proofs.Decoder.start.Statement.{statement}
 use Rattle.resume.proofs.Decoder.start.Tie as tie
-use Rattle.rules.specs.Step.{starting, startHeader}
 
 decode-requires : tie.Need-decode-requires
 decode-requires c κs = search needs

@@ -1,13 +1,13 @@
 -- `resume::Decoder::take_up` meets its contract: the header's answer leads to the case of the definition.
 -- Assumes nothing.
-use borrow.Author.Needs.{needs}
-use Rattle.resume.proofs.Decoder.take_up.Statement.{statement}
-use Rattle.resume.proofs.Decoder.take_up.Tie as tie
 use mathlib.Core.Path.{sym, _∙_}
 use native.Mathlib.Omega.{arith}
+use borrow.Author.Needs.{needs}
 use Rattle.header.proofs.Laws.{header-accepted}
 use Rattle.rules.specs.Record.{readRecord, readWanted}
 use Rattle.rules.proofs.PastingLaws.{whole-tail}
+use Rattle.resume.proofs.Decoder.take_up.Statement.{statement}
+use Rattle.resume.proofs.Decoder.take_up.Tie as tie
 
 decode-requires : tie.Need-decode-requires
 decode-requires c κs = search needs

@@ -1,18 +1,18 @@
 -- `resume::Decoder::write_record` meets its contract: the tests are the definition's, in its order.
 -- Assumes nothing.
-use borrow.Author.Needs.{needs}
-use Rattle.resume.proofs.Decoder.write_record.Statement.{statement}
-use Rattle.resume.proofs.Decoder.write_record.Tie as tie
 use mathlib.Core.Path.{_≡_, refl, ap}
 use mathlib.Core.Bool.{false}
 use native.Mathlib.Omega.{arith}
 use lib.Dec.{ltb}
 use lib.ListN.{length}
+use borrow.Author.Needs.{needs}
 use borrow.Author.Tests.{lt-ltb, le-ltb, not-true, not-false}
 use Rattle.rules.specs.Record.{recordBytes, recording, recordedOver}
 use Rattle.resume.specs.declared.Written.{Written}
 use Rattle.resume.specs.declared.Written.the-variants as written
 use Rattle.resume.specs.State.{stateOf}
+use Rattle.resume.proofs.Decoder.write_record.Statement.{statement}
+use Rattle.resume.proofs.Decoder.write_record.Tie as tie
 
 well-formed-requires : tie.Need-well-formed-requires
 well-formed-requires c κs = search needs

@@ -1,15 +1,15 @@
 -- `resume::form::well_formed` meets its contract: the tests in the code's order leave those of the definition.
 -- Assumes nothing.
-use borrow.Author.Needs.{needs}
-use Rattle.resume.proofs.form.well_formed.Statement.{statement}
-use Rattle.resume.proofs.form.well_formed.Tie as tie
 use mathlib.Core.Path.{sym}
 use mathlib.Core.Bool.{and-true, and-false}
 use native.Mathlib.Omega.{arith}
+use borrow.Author.Needs.{needs}
 use borrow.Author.Tests.{le-leb, lt-leb, eq-eqb, ne-eqb}
 use Rattle.header.specs.Header.{pixelCount}
 use Rattle.rules.specs.Step.{wantedPasses, wellFormed}
 use Rattle.resume.specs.State.{stateOf}
+use Rattle.resume.proofs.form.well_formed.Statement.{statement}
+use Rattle.resume.proofs.form.well_formed.Tie as tie
 
 n-pixels-requires : tie.Need-n-pixels-requires
 n-pixels-requires c κs = search needs

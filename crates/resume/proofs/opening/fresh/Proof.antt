@@ -1,9 +1,9 @@
 -- `resume::opening::fresh` meets its contract: it is made of the start pixel and 64 clear slots.
 -- Assumes nothing.
 use borrow.Author.Needs.{needs}
+use Rattle.rules.specs.Reading.{startPlace}
 use Rattle.resume.proofs.opening.fresh.Statement.{statement}
 use Rattle.resume.proofs.opening.fresh.Tie as tie
-use Rattle.rules.specs.Reading.{startPlace}
 
 start-requires : tie.Need-start-requires
 start-requires c κs = search needs

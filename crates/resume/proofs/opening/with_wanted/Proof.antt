@@ -1,11 +1,11 @@
 -- `resume::opening::with_wanted` meets its contract: the channels' answer leads to the case of the definition.
 -- Assumes nothing.
-use borrow.Author.Needs.{needs}
-use Rattle.resume.proofs.opening.with_wanted.Statement.{statement}
-use Rattle.resume.proofs.opening.with_wanted.Tie as tie
 use mathlib.Core.Path.{refl, _∙_, ap}
+use borrow.Author.Needs.{needs}
 use Rattle.rules.specs.Step.{startWanted}
 use Rattle.resume.specs.State.{freshState}
+use Rattle.resume.proofs.opening.with_wanted.Statement.{statement}
+use Rattle.resume.proofs.opening.with_wanted.Tie as tie
 
 enum-known-wanted : tie.Need-enum-known-wanted
 enum-known-wanted c = search needs

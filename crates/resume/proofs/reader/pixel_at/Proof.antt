@@ -1,12 +1,12 @@
 -- `resume::reader::pixel_at` meets its contract: the four bytes at a place are the first four of what follows it.
 -- Assumes nothing.
-use borrow.Author.Needs.{needs}
-use Rattle.resume.proofs.reader.pixel_at.Statement.{statement}
-use Rattle.resume.proofs.reader.pixel_at.Tie as tie
 use mathlib.Core.Path.{_∙_}
 use native.Mathlib.Nat.{add-zero}
 use lib.Seq.{getD-drop}
+use borrow.Author.Needs.{needs}
 use Rattle.rules.specs.Encode.{pixelFrom}
+use Rattle.resume.proofs.reader.pixel_at.Statement.{statement}
+use Rattle.resume.proofs.reader.pixel_at.Tie as tie
 
 shared-slice-read-new : tie.Need-shared-slice-read-new
 shared-slice-read-new c = search needs

@@ -1,11 +1,11 @@
 -- `resume::reader::read_end` meets its contract: the tests are the definition's, in its order.
 -- Assumes nothing.
-use borrow.Author.Needs.{needs}
-use Rattle.resume.proofs.reader.read_end.Statement.{statement}
-use Rattle.resume.proofs.reader.read_end.Tie as tie
 use mathlib.Core.Path.{refl}
+use borrow.Author.Needs.{needs}
 use borrow.Author.Tests.{eq-eqb, ne-eqb, not-true, not-false}
 use Rattle.rules.specs.Record.{readEnd}
+use Rattle.resume.proofs.reader.read_end.Statement.{statement}
+use Rattle.resume.proofs.reader.read_end.Tie as tie
 
 well-formed-requires : tie.Need-well-formed-requires
 well-formed-requires c κs = search needs

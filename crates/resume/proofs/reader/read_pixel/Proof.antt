@@ -1,13 +1,13 @@
 -- `resume::reader::read_pixel` meets its contract: the number's answer leads to the case of the definition.
 -- Assumes nothing.
-use borrow.Author.Needs.{needs}
-use Rattle.resume.proofs.reader.read_pixel.Statement.{statement}
-use Rattle.resume.proofs.reader.read_pixel.Tie as tie
 use mathlib.Core.Path.{sym, _∙_}
 use native.Mathlib.Omega.{arith}
+use borrow.Author.Needs.{needs}
 use Rattle.number.proofs.Laws.{read-bounds}
 use Rattle.rules.specs.Record.{withNumber}
 use Rattle.rules.proofs.PastingLaws.{whole-tail}
+use Rattle.resume.proofs.reader.read_pixel.Statement.{statement}
+use Rattle.resume.proofs.reader.read_pixel.Tie as tie
 
 read-requires : tie.Need-read-requires
 read-requires c κs = search needs

@@ -1,9 +1,9 @@
 -- `resume::reader::read_positions` meets its contract: the channels' answer leads to the case of the definition.
 -- Assumes nothing.
 use borrow.Author.Needs.{needs}
+use Rattle.rules.specs.Record.{readPositions}
 use Rattle.resume.proofs.reader.read_positions.Statement.{statement}
 use Rattle.resume.proofs.reader.read_positions.Tie as tie
-use Rattle.rules.specs.Record.{readPositions}
 
 enum-known-wanted : tie.Need-enum-known-wanted
 enum-known-wanted c = search needs

@@ -1,14 +1,14 @@
 -- `resume::reader::read_slots` meets its contract: 260 bytes make the current pixel and the slots, what is left is tested.
 -- Assumes nothing.
-use borrow.Author.Needs.{needs}
-use Rattle.resume.proofs.reader.read_slots.Statement.{statement}
-use Rattle.resume.proofs.reader.read_slots.Tie as tie
-use mathlib.Core.Path.{_≡_, sym}
 use Prim.Native.Nat.{_-_}
+use mathlib.Core.Path.{_≡_, sym}
 use lib.ListN.{length, drop, length-drop}
+use borrow.Author.Needs.{needs}
 use borrow.Author.Tests.{lt-ltb, le-ltb}
 use Rattle.rules.specs.Record.{readSlots}
 use Rattle.rules.proofs.PastingLaws.{whole-tail}
+use Rattle.resume.proofs.reader.read_slots.Statement.{statement}
+use Rattle.resume.proofs.reader.read_slots.Tie as tie
 
 refused-requires : tie.Need-refused-requires
 refused-requires c κs = search needs

@@ -1,18 +1,18 @@
 -- `resume::reader::slots_from` meets its contract: at each turn the slots passed are so many pixels of the bytes.
 -- Assumes nothing.
-use Rattle.resume.proofs.reader.slots_from.Statement.{statement}
-use Rattle.resume.proofs.reader.slots_from.Tie as tie
 use Prim.Native.Nat.{_≤_, _-_}
+use mathlib.Core.Path.{_≡_, refl, sym, _∙_, ap}
+use mathlib.Core.List.{List, [], _∷_, _++_}
 use native.Mathlib.Numerals.{add-one}
 use native.Mathlib.Omega.{arith}
 use lib.ListN.{length, take, length-set}
 use lib.Seq.{take-suc-set, take-all}
 use borrow.Author.Needs.{needs}
+use Rattle.pixel.specs.declared.Pixel.{Pixel}
 use Rattle.rules.specs.Encode.{pixelsFrom}
 use Rattle.resume.proofs.Slots.{pixels-more}
-use mathlib.Core.Path.{_≡_, refl, sym, _∙_, ap}
-use mathlib.Core.List.{List, [], _∷_, _++_}
-use Rattle.pixel.specs.declared.Pixel.{Pixel}
+use Rattle.resume.proofs.reader.slots_from.Statement.{statement}
+use Rattle.resume.proofs.reader.slots_from.Tie as tie
 
 abbrev Inv-loop : tie.InvT-loop
 Inv-loop bytes slots₀ i₀ slots i =

@@ -1,7 +1,6 @@
 -- `resume::writer::put` meets its contract: at each turn the bytes still to come, put here, make the whole answer.
 -- Assumes nothing.
-use Rattle.resume.proofs.writer.put.Statement.{statement}
-use Rattle.resume.proofs.writer.put.Tie as tie
+use Prim.Native.Nat.{suc, _<_, _≤_, _+_, _-_}
 use mathlib.Core.Path.{_≡_, refl, sym, _∙_}
 use mathlib.Core.List.{[]}
 use native.Mathlib.Nat.{add-zero}
@@ -12,7 +11,8 @@ use lib.Seq.{drop-cons}
 use Rattle.rules.specs.Reading.{pasted}
 use Rattle.rules.proofs.PastingLaws.{pasted-none}
 use Rattle.resume.proofs.Parts.{stored-next}
-use Prim.Native.Nat.{suc, _<_, _≤_, _+_, _-_}
+use Rattle.resume.proofs.writer.put.Statement.{statement}
+use Rattle.resume.proofs.writer.put.Tie as tie
 
 abbrev Inv-loop : tie.InvT-loop
 Inv-loop out₀ at bytes i₀ out i =

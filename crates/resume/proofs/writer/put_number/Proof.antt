@@ -1,16 +1,16 @@
 -- `resume::writer::put_number` meets its contract: the part from the place on starts with the number, and is back in its place.
 -- Assumes nothing.
-use borrow.Author.Needs.{needs}
-use Rattle.resume.proofs.writer.put_number.Statement.{statement}
-use Rattle.resume.proofs.writer.put_number.Tie as tie
-use mathlib.Core.Path.{_∙_, ap}
 use Prim.Native.Nat.{ℕ, _+_, _-_, _≤_}
+use mathlib.Core.Path.{_∙_, ap}
 use native.Mathlib.Omega.{arith}
 use lib.ListN.{length, take, drop, length-drop}
+use borrow.Author.Needs.{needs}
 use borrow.Rule.Slice.PartMut.{putMid}
 use Rattle.number.specs.Seven.{sevenBits}
 use Rattle.rules.proofs.PastingLaws.{whole-tail}
 use Rattle.resume.proofs.Parts.{number-written, put-back}
+use Rattle.resume.proofs.writer.put_number.Statement.{statement}
+use Rattle.resume.proofs.writer.put_number.Tie as tie
 
 sub-write : tie.Need-sub-write
 sub-write c = search needs

@@ -1,14 +1,14 @@
 -- `resume::writer::put_numbers` meets its contract: each number is put where the one before it ended.
 -- Assumes nothing.
-use borrow.Author.Needs.{needs}
-use Rattle.resume.proofs.writer.put_numbers.Statement.{statement}
-use Rattle.resume.proofs.writer.put_numbers.Tie as tie
 use mathlib.Core.Path.{_∙_}
 use mathlib.Core.List.{_++_}
 use native.Mathlib.Omega.{arith}
 use lib.ListN.{length-append}
+use borrow.Author.Needs.{needs}
 use Rattle.number.specs.Seven.{sevenBits}
 use Rattle.resume.proofs.Parts.{put-next}
+use Rattle.resume.proofs.writer.put_numbers.Statement.{statement}
+use Rattle.resume.proofs.writer.put_numbers.Tie as tie
 
 put-number-requires : tie.Need-put-number-requires
 put-number-requires c κs = search needs

@@ -1,12 +1,12 @@
 -- `resume::writer::put_pixels` meets its contract: the slots are put where the current pixel ended.
 -- Assumes nothing.
-use borrow.Author.Needs.{needs}
-use Rattle.resume.proofs.writer.put_pixels.Statement.{statement}
-use Rattle.resume.proofs.writer.put_pixels.Tie as tie
 use mathlib.Core.Path.{_∙_}
 use native.Mathlib.Omega.{arith}
+use borrow.Author.Needs.{needs}
 use Rattle.rules.specs.Record.{pixelsBytes}
 use Rattle.resume.proofs.Parts.{put-next}
+use Rattle.resume.proofs.writer.put_pixels.Statement.{statement}
+use Rattle.resume.proofs.writer.put_pixels.Tie as tie
 
 put-pixel-requires : tie.Need-put-pixel-requires
 put-pixel-requires c κs = search needs

@@ -1,16 +1,16 @@
 -- `resume::writer::put_record` meets its contract: the numbers are put where the header ended, the pixels where the numbers ended.
 -- Assumes nothing.
-use borrow.Author.Needs.{needs}
-use Rattle.resume.proofs.writer.put_record.Statement.{statement}
-use Rattle.resume.proofs.writer.put_record.Tie as tie
 use mathlib.Core.Path.{_∙_, ap}
 use mathlib.Core.List.{_++_}
 use native.Mathlib.Nat.{zero-add}
 use native.Mathlib.Omega.{arith}
 use lib.ListN.{length, length-append}
+use borrow.Author.Needs.{needs}
 use Rattle.header.proofs.Laws.{header-length}
 use Rattle.resume.specs.State.{stateOf}
 use Rattle.resume.proofs.Parts.{put-next, numbersOf, pixelsOf, record-joined, record-parts}
+use Rattle.resume.proofs.writer.put_record.Statement.{statement}
+use Rattle.resume.proofs.writer.put_record.Tie as tie
 
 encode-requires : tie.Need-encode-requires
 encode-requires c κs = search needs

@@ -1,7 +1,5 @@
 -- `resume::writer::put_slots` meets its contract: at each turn the slots still to come, put here, make the whole answer.
 -- Assumes nothing.
-use Rattle.resume.proofs.writer.put_slots.Statement.{statement}
-use Rattle.resume.proofs.writer.put_slots.Tie as tie
 use Prim.Native.Nat.{suc, _<_, _≤_, _+_, _-_}
 use mathlib.Core.Path.{_≡_, refl, sym, _∙_}
 use mathlib.Core.List.{[]}
@@ -14,6 +12,8 @@ use Rattle.rules.specs.Record.{pixelsBytes}
 use Rattle.rules.proofs.PastingLaws.{pasted-none}
 use Rattle.resume.proofs.Parts.{put-next}
 use Rattle.resume.proofs.Slots.{noPixel, bytes-next, bytes-next-length}
+use Rattle.resume.proofs.writer.put_slots.Statement.{statement}
+use Rattle.resume.proofs.writer.put_slots.Tie as tie
 
 abbrev Inv-loop : tie.InvT-loop
 Inv-loop out₀ start slots at₀ i₀ out at i =
