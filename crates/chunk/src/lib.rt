@@ -160,10 +160,10 @@ pub fn alpha(previous: u8, colour: Colour) -> u8
     }
 }
 
-// The packed pixel that a chunk of colour makes of the previous one's colour and alpha, which is handed in apart: few chunks change it, and a
-// loop that takes it out of each pixel waits for it.
+// The packed pixel of the colour that a chunk makes of the previous one, with the alpha that is handed in: a loop that took it out of each
+// pixel would wait for it.
 pub fn recolour(previous: u32, alpha: u8, colour: Colour) -> u32
-    ensures { λ r. ⌜ unpacked r ≡ colourOf [] (withAlpha (unpacked previous) alpha) (chunkOf colour) ⌝ }
+    ensures { λ r. ⌜ unpacked r ≡ withAlpha (colourOf [] (unpacked previous) (chunkOf colour)) alpha ⌝ }
 {
     match colour {
         Colour::Diff(r, g, b) => shifted(
@@ -174,17 +174,17 @@ pub fn recolour(previous: u32, alpha: u8, colour: Colour) -> u32
             pixel::wrapped_difference(b, 2),
         ),
         Colour::Luma(g, r, b) => {
-            let green = pixel::wrapped_difference(g, 32);
+            let near = pixel::wrapped_difference(g, 40);
             shifted(
                 previous,
                 alpha,
-                pixel::wrapped_sum(green, pixel::wrapped_difference(r, 8)),
-                green,
-                pixel::wrapped_sum(green, pixel::wrapped_difference(b, 8)),
+                pixel::wrapped_sum(near, r),
+                pixel::wrapped_difference(g, 32),
+                pixel::wrapped_sum(near, b),
             )
         }
         Colour::Rgb(r, g, b) => packed::pack(r, g, b, alpha),
-        Colour::Rgba(r, g, b, a) => packed::pack(r, g, b, a),
+        Colour::Rgba(r, g, b, _) => packed::pack(r, g, b, alpha),
         Colour::Stuck => packed::pack(
             packed::red(previous),
             packed::green(previous),

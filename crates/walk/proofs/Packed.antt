@@ -15,17 +15,6 @@ use Rattle.chunk.specs.Found.{chunkOf}
 abbrev pub alphaIn : ℕ → ℕ
 alphaIn p = p / 16777216 % 256
 
--- a packed pixel with the alpha that it has
-pub own-alpha : (p a : ℕ) → a ≡ alphaIn p → withAlpha (unpacked p) a ≡ unpacked p
-unfolding unpacked
-own-alpha p a is = ap (pixelOf (p % 256) (p / 256 % 256) (p / 65536 % 256)) is
-
--- what a chunk of colour makes of a pixel whose alpha is kept apart
-pub recoloured :
-    (p a q : ℕ) (c : Colour) → a ≡ alphaIn p → unpacked q ≡ colourOf [] (withAlpha (unpacked p) a) (chunkOf c)
-    → unpacked q ≡ colourOf [] (unpacked p) (chunkOf c)
-recoloured p a q c is made = made ∙ ap (λ (x : Pixel). colourOf [] x (chunkOf c)) (own-alpha p a is)
-
 -- the alpha that a chunk of colour leaves does not depend on the colour before it
 alpha-alone : (x : Pixel) (a : ℕ) (c : Colour) → alpha (colourOf [] (withAlpha clearPixel a) (chunkOf c)) ≡ alpha (colourOf [] (withAlpha x a) (chunkOf c))
 unfolding colourOf
@@ -35,9 +24,32 @@ alpha-alone x a (Rgb r g b) = refl
 alpha-alone x a (Rgba r g b a′) = refl
 alpha-alone x a Stuck = refl
 
--- and so is the pixel's that it makes
-pub alpha-kept :
-    (p a q a′ : ℕ) (c : Colour) → unpacked q ≡ colourOf [] (withAlpha (unpacked p) a) (chunkOf c)
-    → a′ ≡ alpha (colourOf [] (withAlpha clearPixel a) (chunkOf c)) → a′ ≡ alphaIn q
+-- a packed pixel with the alpha that it has
+own-alpha : (p a : ℕ) → a ≡ alphaIn p → withAlpha (unpacked p) a ≡ unpacked p
 unfolding unpacked
-alpha-kept p a q a′ c made is = is ∙ alpha-alone (unpacked p) a c ∙ sym (ap alpha made)
+own-alpha p a is = ap (pixelOf (p % 256) (p / 256 % 256) (p / 65536 % 256)) is
+
+-- what a chunk of colour makes of a packed pixel, with the alpha that it makes
+made-alpha : (p : ℕ) (c : Colour) → withAlpha (colourOf [] (unpacked p) (chunkOf c)) (alpha (colourOf [] (unpacked p) (chunkOf c))) ≡ colourOf [] (unpacked p) (chunkOf c)
+unfolding colourOf unpacked
+made-alpha p (Diff r g b) = refl
+made-alpha p (Luma g r b) = refl
+made-alpha p (Rgb r g b) = refl
+made-alpha p (Rgba r g b a) = refl
+made-alpha p Stuck = refl
+
+module _ (p a q a′ : ℕ) (c : Colour) (kept : a ≡ alphaIn p)
+    (leaves : a′ ≡ alpha (colourOf [] (withAlpha clearPixel a) (chunkOf c)))
+    (made : unpacked q ≡ withAlpha (colourOf [] (unpacked p) (chunkOf c)) a′) where
+  -- the alpha that is kept apart is that of the pixel made
+  new-alpha : a′ ≡ alpha (colourOf [] (unpacked p) (chunkOf c))
+  new-alpha = leaves ∙ alpha-alone (unpacked p) a c ∙ ap (λ (x : Pixel). alpha (colourOf [] x (chunkOf c))) (own-alpha p a kept)
+
+  -- so the pixel is the one that the chunk makes
+  pub recoloured : unpacked q ≡ colourOf [] (unpacked p) (chunkOf c)
+  recoloured = made ∙ ap (withAlpha (colourOf [] (unpacked p) (chunkOf c))) new-alpha ∙ made-alpha p c
+
+  -- and the alpha kept apart is its alpha
+  pub alpha-kept : a′ ≡ alphaIn q
+  unfolding unpacked
+  alpha-kept = sym (ap alpha made)

@@ -69,8 +69,8 @@ pub fn walk_four(
             }
             Found::Colour(colour) => {
                 at += chunk::size(colour);
-                current = chunk::recolour(current, alpha, colour);
                 alpha = chunk::alpha(alpha, colour);
+                current = chunk::recolour(current, alpha, colour);
                 let i = packed::slot(current);
                 slots[i] = packed::unpack(current);
                 put_four(out, done * 4, current);

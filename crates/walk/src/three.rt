@@ -68,7 +68,7 @@ pub fn walk_three(
             }
             Found::Colour(colour) => {
                 at += chunk::size(colour);
-                current = packed::opaque(chunk::recolour(current, packed::alpha(current), colour));
+                current = chunk::recolour(current, 255, colour);
                 let i = packed::slot(current);
                 slots[i] = packed::unpack(current);
                 put_three(out, done * 3, current);

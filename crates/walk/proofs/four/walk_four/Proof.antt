@@ -230,7 +230,7 @@ unpack-requires-2 : tie.Need-unpack-requires-2 Inv-loop μ-loop
 unpack-requires-2 c κs = search needs
 
 mul-slots : tie.Need-mul-slots Inv-loop μ-loop
-mul-slots c = record { fits = omega (arith, c .before .slot2 .ensures, slot-below (unpacked (c .before .before .before .recolour .result))) }
+mul-slots c = record { fits = omega (arith, c .before .slot2 .ensures, slot-below (unpacked (c .before .before .recolour .result))) }
 
 array-set-from-slots : tie.Need-array-set-from-slots Inv-loop μ-loop
 array-set-from-slots c = rw (c .before .slot2 .ensures) (slot-below _)
@@ -254,8 +254,8 @@ loop-again-3 c =
     let colour = c .before .before .before .before .before .before .before .before .before .before .colour .given .0 .0 in (
       rw (c .before .before .before .before .before .before .before .before .size .ensures, c .before .before .before .before .before .slot2 .ensures, c .before .before .before .before .unpack2 .ensures)
           (after-colour _ _ _ _ _ _ _ _ _ _ _ _ _ _ _ (l .inv .0) (c .before .before .before .before .before .before .before .before .before .before .before .before .before .before .loop-test .taken) fourBytes four-bytes colour (finds _ _ _ _ _ _ _ _ _ _ _ _ _ _ _ (l .inv .0) _ _ (c .before .before .before .before .before .before .before .before .before .before .before .before .read .ensures) (c .before .before .before .before .before .before .before .before .before .before .colour .given .1)) _
-          (recoloured _ _ _ colour (l .inv .1) (c .before .before .before .before .before .before .before .recolour .ensures)) _ (c .before .before .put-four2 .ensures)),
-      alpha-kept _ _ _ _ colour (c .before .before .before .before .before .before .before .recolour .ensures) (c .before .before .before .before .before .before .alpha3 .ensures),
+          (recoloured _ _ _ _ colour (l .inv .1) (c .before .before .before .before .before .before .before .alpha3 .ensures) (c .before .before .before .before .before .before .recolour .ensures)) _ (c .before .before .put-four2 .ensures)),
+      alpha-kept _ _ _ _ colour (l .inv .1) (c .before .before .before .before .before .before .before .alpha3 .ensures) (c .before .before .before .before .before .before .recolour .ensures),
     )
 
 sub-t24 : tie.Need-sub-t24 Inv-loop μ-loop
@@ -326,8 +326,8 @@ walk-four-spec =
     enum-known-colour
     size-requires
     add-at-3
-    recolour-requires
     alpha-requires-3
+    recolour-requires
     slot-requires
     unpack-requires-2
     mul-slots

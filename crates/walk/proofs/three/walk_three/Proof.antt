@@ -17,7 +17,6 @@ use Rattle.rules.specs.Decode.{decoderKeeps}
 use Rattle.walk.specs.Walking.{walking}
 use Rattle.walk.specs.Inner.{threeBytes}
 use Rattle.walk.proofs.Loop.{Of, Head, placeAt, finds, index-within, run-some, run-fits, colour-within, ends-bound, ends-cut, after-index, after-run, after-colour, three-bytes, slot-below, unmapped}
-use Rattle.walk.proofs.Packed.{recoloured}
 use Rattle.walk.proofs.three.walk_three.Statement.{statement}
 use Rattle.walk.proofs.three.walk_three.Tie as tie
 
@@ -212,14 +211,8 @@ add-at-3 c =
     let within = colour-within _ _ _ _ _ _ _ _ _ _ _ _ _ _ _ (l .inv) (c .before .before .colour .given .0 .0) (finds _ _ _ _ _ _ _ _ _ _ _ _ _ _ _ (l .inv) _ _ (c .before .before .before .before .read .ensures) (c .before .before .colour .given .1)) in
     record { fits = omega (arith, c .size .ensures, within) }
 
-alpha-requires : tie.Need-alpha-requires Inv-loop μ-loop
-alpha-requires c κs = search needs
-
 recolour-requires : tie.Need-recolour-requires Inv-loop μ-loop
 recolour-requires c κs = search needs
-
-opaque-requires-3 : tie.Need-opaque-requires-3 Inv-loop μ-loop
-opaque-requires-3 c κs = search needs
 
 slot-requires : tie.Need-slot-requires Inv-loop μ-loop
 slot-requires c κs = search needs
@@ -228,7 +221,7 @@ unpack-requires-2 : tie.Need-unpack-requires-2 Inv-loop μ-loop
 unpack-requires-2 c κs = search needs
 
 mul-slots : tie.Need-mul-slots Inv-loop μ-loop
-mul-slots c = record { fits = omega (arith, c .before .slot2 .ensures, slot-below (unpacked (c .before .before .opaque3 .result))) }
+mul-slots c = record { fits = omega (arith, c .before .slot2 .ensures, slot-below (unpacked (c .before .before .recolour .result))) }
 
 array-set-from-slots : tie.Need-array-set-from-slots Inv-loop μ-loop
 array-set-from-slots c = rw (c .before .slot2 .ensures) (slot-below _)
@@ -248,17 +241,17 @@ loop-less-3 c = search needs
 loop-again-3 : tie.Need-loop-again-3 Inv-loop μ-loop
 unfolding decoderKeeps
 loop-again-3 c =
-    let l = c .before .before .before .before .before .before .before .before .before .before .before .before .before .before .before .before .loop in
-    let colour = c .before .before .before .before .before .before .before .before .before .before .before .colour .given .0 .0 in
-    rw (c .before .before .before .before .before .before .before .before .before .size .ensures, c .before .before .before .before .before .slot2 .ensures, c .before .before .before .before .unpack2 .ensures)
-    (after-colour _ _ _ _ _ _ _ _ _ _ _ _ _ _ _ (l .inv) (c .before .before .before .before .before .before .before .before .before .before .before .before .before .before .before .loop-test .taken) threeBytes three-bytes colour (finds _ _ _ _ _ _ _ _ _ _ _ _ _ _ _ (l .inv) _ _ (c .before .before .before .before .before .before .before .before .before .before .before .before .before .read .ensures) (c .before .before .before .before .before .before .before .before .before .before .before .colour .given .1)) _
-    (c .before .before .before .before .before .before .opaque3 .ensures ∙ ap (λ (p : Pixel). withAlpha p 255) (recoloured _ _ _ colour (c .before .before .before .before .before .before .before .before .alpha .ensures) (c .before .before .before .before .before .before .before .recolour .ensures))) _ (c .before .before .put-three2 .ensures))
+    let l = c .before .before .before .before .before .before .before .before .before .before .before .before .before .before .loop in
+    let colour = c .before .before .before .before .before .before .before .before .before .colour .given .0 .0 in
+    rw (c .before .before .before .before .before .before .before .size .ensures, c .before .before .before .before .before .slot2 .ensures, c .before .before .before .before .unpack2 .ensures)
+    (after-colour _ _ _ _ _ _ _ _ _ _ _ _ _ _ _ (l .inv) (c .before .before .before .before .before .before .before .before .before .before .before .before .before .loop-test .taken) threeBytes three-bytes colour (finds _ _ _ _ _ _ _ _ _ _ _ _ _ _ _ (l .inv) _ _ (c .before .before .before .before .before .before .before .before .before .before .before .read .ensures) (c .before .before .before .before .before .before .before .before .before .colour .given .1)) _
+    (c .before .before .before .before .before .before .recolour .ensures) _ (c .before .before .put-three2 .ensures))
 
 sub-t23 : tie.Need-sub-t23 Inv-loop μ-loop
 sub-t23 c = search needs
 
-add-t57 : tie.Need-add-t57 Inv-loop μ-loop
-add-t57 c = search needs
+add-t55 : tie.Need-add-t55 Inv-loop μ-loop
+add-t55 c = search needs
 
 unpack-requires-3 : tie.Need-unpack-requires-3 Inv-loop μ-loop
 unpack-requires-3 c κs = search needs
@@ -322,9 +315,7 @@ walk-three-spec =
     enum-known-colour
     size-requires
     add-at-3
-    alpha-requires
     recolour-requires
-    opaque-requires-3
     slot-requires
     unpack-requires-2
     mul-slots
@@ -335,7 +326,7 @@ walk-three-spec =
     loop-less-3
     loop-again-3
     sub-t23
-    add-t57
+    add-t55
     unpack-requires-3
     same-length-2
     returns-2)
