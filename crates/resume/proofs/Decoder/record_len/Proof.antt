@@ -1,6 +1,6 @@
 -- `resume::Decoder::record_len` meets its contract: fourteen bytes, three numbers, and four bytes for each of 65 pixels.
 -- Assumes nothing.
-use Prim.Native.Nat.{_*_}
+use Prim.Native.Nat.{_+_, _*_, _≤_}
 use mathlib.Core.Path.{_≡_}
 use native.Mathlib.Omega.{arith}
 use lib.ListN.{length}
@@ -27,17 +27,20 @@ add-numbers c =
 len-requires-3 : tie.Need-len-requires-3
 len-requires-3 c κs = search needs
 
+-- three numbers take thirty bytes at most
+few : (c : tie.After-len3) → c .before .before .len .result + c .before .len2 .result + c .len3 .result ≤ 30
+few c =
+    let d = c .before .before .before .args .self in
+    omega (arith, c .before .before .len .ensures, c .before .len2 .ensures, c .len3 .ensures, length-at-most-ten (d .wanted), length-at-most-ten (d .at), length-at-most-ten (d .pixel))
+
 add-numbers-2 : tie.Need-add-numbers-2
-add-numbers-2 c =
-    record { fits = omega (arith, c .before .before .len .ensures, c .before .len2 .ensures, c .len3 .ensures, length-at-most-ten (c .before .before .before .args .self .wanted), length-at-most-ten (c .before .before .before .args .self .at), length-at-most-ten (c .before .before .before .args .self .pixel)) }
+add-numbers-2 c = record { fits = omega (arith, few c) }
 
 add-result : tie.Need-add-result
-add-result c =
-    record { fits = omega (arith, c .before .before .len .ensures, c .before .len2 .ensures, c .len3 .ensures, length-at-most-ten (c .before .before .before .args .self .wanted), length-at-most-ten (c .before .before .before .args .self .at), length-at-most-ten (c .before .before .before .args .self .pixel)) }
+add-result c = record { fits = omega (arith, few c) }
 
 add-result-2 : tie.Need-add-result-2
-add-result-2 c =
-    record { fits = omega (arith, c .before .before .len .ensures, c .before .len2 .ensures, c .len3 .ensures, length-at-most-ten (c .before .before .before .args .self .wanted), length-at-most-ten (c .before .before .before .args .self .at), length-at-most-ten (c .before .before .before .args .self .pixel)) }
+add-result-2 c = record { fits = omega (arith, few c) }
 
 returns : tie.Need-returns
 returns c =

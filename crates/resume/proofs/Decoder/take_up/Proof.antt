@@ -26,8 +26,7 @@ sub-read-wanted c =
     omega (arith, header-accepted _ _ (sym (c .before .before .before .decode .ensures) ∙ c .before .header .given .1) .whole)
 
 part-read-wanted-start : tie.Need-part-read-wanted-start
-part-read-wanted-start c =
-    omega (arith, header-accepted _ _ (sym (c .before .before .before .decode .ensures) ∙ c .before .header .given .1) .whole)
+part-read-wanted-start c = sub-read-wanted c
 
 part-read-wanted-end : tie.Need-part-read-wanted-end
 part-read-wanted-end c = search needs

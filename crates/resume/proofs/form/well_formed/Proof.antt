@@ -1,18 +1,24 @@
 -- `resume::form::well_formed` meets its contract: the tests in the code's order leave those of the definition.
 -- Assumes nothing.
-use mathlib.Core.Path.{sym}
-use mathlib.Core.Bool.{and-true, and-false}
+use Prim.Native.Nat.{ℕ, _≤_}
+use mathlib.Core.Path.{_≡_, sym}
+use mathlib.Core.Bool.{true, and-true, and-false}
 use native.Mathlib.Omega.{arith}
 use borrow.Author.Needs.{needs}
 use borrow.Author.Tests.{le-leb, lt-leb, eq-eqb, ne-eqb}
 use Rattle.header.specs.Header.{pixelCount}
-use Rattle.rules.specs.Step.{wantedPasses, wellFormed}
+use Rattle.rules.specs.Step.{headerPasses, wantedPasses, wellFormed}
+use Rattle.resume.specs.declared.Decoder.{Decoder}
 use Rattle.resume.specs.State.{stateOf}
 use Rattle.resume.proofs.form.well_formed.Statement.{statement}
 use Rattle.resume.proofs.form.well_formed.Tie as tie
 
 n-pixels-requires : tie.Need-n-pixels-requires
 n-pixels-requires c κs = search needs
+
+-- a header whose pixels passed both tests
+passed : (d : Decoder) {n : ℕ} → n ≡ pixelCount (d .header) → 1 ≤ n → n ≤ 400000000 → headerPasses (stateOf d) ≡ true
+passed d {n} is some few = rw (← is, le-leb 1 n some, le-leb n 400000000 few)
 
 returns : tie.Need-returns
 unfolding wellFormed
@@ -32,7 +38,7 @@ unfolding wellFormed
 returns-3 c =
     let d = c .before .before .before .before .before .before .args .decoder in
     let n = c .before .before .before .before .n-pixels .ensures in
-    rw (le-leb 1 (pixelCount (d .header)) (omega arith), le-leb (pixelCount (d .header)) 400000000 (omega arith), lt-leb 14 (d .at) (omega arith))
+    rw (passed d n (omega arith) (omega arith), lt-leb 14 (d .at) (omega arith))
     (sym (and-false (wantedPasses (stateOf d))))
 
 returns-4 : tie.Need-returns-4
@@ -40,7 +46,7 @@ unfolding wellFormed
 returns-4 c =
     let d = c .before .before .before .before .before .before .before .before .args .decoder in
     let n = c .before .before .before .before .before .before .n-pixels .ensures in
-    rw (le-leb 1 (pixelCount (d .header)) (omega arith), le-leb (pixelCount (d .header)) 400000000 (omega arith), le-leb 14 (d .at) (omega arith), lt-leb (d .pixel) (pixelCount (d .header)) (omega arith))
+    rw (passed d n (omega arith) (omega arith), le-leb 14 (d .at) (omega arith), lt-leb (d .pixel) (pixelCount (d .header)) (omega arith))
     (sym (and-false (wantedPasses (stateOf d))))
 
 a-requires : tie.Need-a-requires
@@ -51,14 +57,14 @@ unfolding wellFormed
 returns-5 c =
     let d = c .before .before .before .before .before .before .before .before .before .before .before .before .args .decoder in
     let n = c .before .before .before .before .before .before .before .before .before .before .n-pixels .ensures in
-    rw (le-leb 1 (pixelCount (d .header)) (omega arith), le-leb (pixelCount (d .header)) 400000000 (omega arith), le-leb 14 (d .at) (omega arith), le-leb (d .pixel) (pixelCount (d .header)) (omega arith), eq-eqb (d .wanted) 3 (omega arith), c .a .ensures)
+    rw (passed d n (omega arith) (omega arith), le-leb 14 (d .at) (omega arith), le-leb (d .pixel) (pixelCount (d .header)) (omega arith), eq-eqb (d .wanted) 3 (omega arith), c .a .ensures)
 
 returns-6 : tie.Need-returns-6
 unfolding wellFormed
 returns-6 c =
     let d = c .before .before .before .before .before .before .before .before .before .before .before .args .decoder in
     let n = c .before .before .before .before .before .before .before .before .before .n-pixels .ensures in
-    rw (le-leb 1 (pixelCount (d .header)) (omega arith), le-leb (pixelCount (d .header)) 400000000 (omega arith), le-leb 14 (d .at) (omega arith), le-leb (d .pixel) (pixelCount (d .header)) (omega arith), ne-eqb (d .wanted) 3 (c .before .if5 .left))
+    rw (passed d n (omega arith) (omega arith), le-leb 14 (d .at) (omega arith), le-leb (d .pixel) (pixelCount (d .header)) (omega arith), ne-eqb (d .wanted) 3 (c .before .if5 .left))
     (sym (and-true _))
 
 pub well-formed-spec : {M : Type 1} → statement M

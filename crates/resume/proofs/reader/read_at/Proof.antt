@@ -26,8 +26,7 @@ sub-read-pixel c =
     omega (arith, read-bounds _ _ _ (λ i h. c .before .before .before .before .shared-slice-known .given i .fits) (sym (c .before .before .before .read .ensures) ∙ c .before .value .given .1))
 
 part-read-pixel-start : tie.Need-part-read-pixel-start
-part-read-pixel-start c =
-    omega (arith, read-bounds _ _ _ (λ i h. c .before .before .before .before .shared-slice-known .given i .fits) (sym (c .before .before .before .read .ensures) ∙ c .before .value .given .1))
+part-read-pixel-start c = sub-read-pixel c
 
 part-read-pixel-end : tie.Need-part-read-pixel-end
 part-read-pixel-end c = search needs

@@ -26,8 +26,7 @@ sub-read-slots c =
     omega (arith, read-bounds _ _ _ (λ i h. c .before .before .before .before .shared-slice-known .given i .fits) (sym (c .before .before .before .read .ensures) ∙ c .before .value .given .1))
 
 part-read-slots-start : tie.Need-part-read-slots-start
-part-read-slots-start c =
-    omega (arith, read-bounds _ _ _ (λ i h. c .before .before .before .before .shared-slice-known .given i .fits) (sym (c .before .before .before .read .ensures) ∙ c .before .value .given .1))
+part-read-slots-start c = sub-read-slots c
 
 part-read-slots-end : tie.Need-part-read-slots-end
 part-read-slots-end c = search needs

@@ -29,8 +29,7 @@ sub-read-positions c =
     omega (arith, read-bounds _ _ _ (λ i h. c .before .before .before .before .before .shared-slice-known .given i .fits) (sym (c .before .before .before .before .read .ensures) ∙ c .before .before .value .given .1))
 
 part-read-positions-start : tie.Need-part-read-positions-start
-part-read-positions-start c =
-    omega (arith, read-bounds _ _ _ (λ i h. c .before .before .before .before .before .shared-slice-known .given i .fits) (sym (c .before .before .before .before .read .ensures) ∙ c .before .before .value .given .1))
+part-read-positions-start c = sub-read-positions c
 
 part-read-positions-end : tie.Need-part-read-positions-end
 part-read-positions-end c = search needs
