@@ -125,8 +125,8 @@ pub extern "C" fn pivotshade_run(
                     *figures = e.figures();
                     e.number()
                 }
-                StepAnswer::Done { size, used } => {
-                    *figures = [size as u64, used as u64, 0, 0];
+                StepAnswer::Done { size: all, used } => {
+                    *figures = [all as u64, used as u64, 0, 0];
                     0
                 }
                 StepAnswer::More => {
