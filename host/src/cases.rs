@@ -1,8 +1,8 @@
 // The kinds of cases: which messages, wanted channels and outputs the port and the Rust are called with.
 use crate::check::{Check, MARKER};
 use crate::messages::{
-    accepted_message, any_header, chunks_for, damage, good_message, header, mostly_accepted,
-    random_message, Chunks,
+    self, accepted_message, any_header, damage, good_message, header, mostly_accepted,
+    random_message,
 };
 use crate::oracle;
 use crate::random::Random;
@@ -208,44 +208,16 @@ fn damaged(check: &mut Check, random: &mut Random) {
 // Single rules: of chunks, of the marker, of the output, of wanted
 
 fn runs_past(check: &mut Check, random: &mut Random) {
-    let channels = 3 + random.below(2) as u8;
-    let before = random.below(100);
-    let left = random.between(1, 61);
-    let mut message = header((before + left) as u32, 1, channels, 0);
-    message.extend(chunks_for(random, before, channels).bytes);
-    message.push(0xc0 + random.between(left + 1, 62) as u8 - 1);
-    message.extend(MARKER);
-    if random.one_in(8) {
-        message.truncate(message.len() - random.between(1, 8));
-    }
-    decode_to_both(check, &message);
+    decode_to_both(check, &messages::run_past(random));
 }
 
 fn empty_slots(check: &mut Check, random: &mut Random) {
-    let channels = 3 + random.below(2) as u8;
-    let mut chunks = Chunks::default();
-    for _ in 0..random.between(1, 40) {
-        match random.below(8) {
-            0 => chunks.step(random),
-            1 => chunks.colour(random, channels),
-            2 => chunks.run(random, 3),
-            3 => chunks.index(random),
-            _ => chunks.push(&[random.byte() % 64], 1),
-        }
-    }
-    let mut message = header(1, chunks.pixels as u32, channels, 1);
-    message.extend(chunks.bytes);
-    message.extend(MARKER);
-    decode_to_both(check, &message);
+    decode_to_both(check, &messages::empty_slots(random));
 }
 
-/// ff in a three-channel source, followed by none to nine bytes, after some pixels and before some others.
+/// ff in a three-channel source, followed by none to nine bytes.
 fn stuck(check: &mut Check, random: &mut Random) {
-    let before = random.below(8);
-    let left = random.between(1, 8);
-    let mut start = header((before + left) as u32, 1, 3, 0);
-    start.extend(chunks_for(random, before, 3).bytes);
-    start.push(0xff);
+    let start = messages::stuck(random);
     let after: [[u8; 9]; 5] = [
         [0, 0, 0, 0, 0, 0, 0, 1, 0],
         [0xc0, 0, 0, 0, 0, 0, 0, 0, 1],
@@ -261,14 +233,7 @@ fn stuck(check: &mut Check, random: &mut Random) {
 }
 
 fn bytes_after(check: &mut Check, random: &mut Random) {
-    let mut message = accepted_message(random, 60);
-    match random.below(4) {
-        0 => message.extend(MARKER),
-        1 => message.extend(accepted_message(random, 10)),
-        2 => message.resize(message.len() + random.between(1, 40), random.byte()),
-        _ => (0..random.between(1, 40)).for_each(|_| message.push(random.byte())),
-    }
-    decode_to_both(check, &message);
+    decode_to_both(check, &messages::bytes_after(random));
 }
 
 /// Each bit of the marker flipped, zeros left out and zeros put in.

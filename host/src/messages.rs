@@ -186,3 +186,122 @@ pub fn damage(random: &mut Random, message: &mut Vec<u8>, start: usize) {
         }
     }
 }
+
+/// Ends in a run that is longer than the pixels left.
+pub fn run_past(random: &mut Random) -> Vec<u8> {
+    let channels = 3 + random.below(2) as u8;
+    let before = random.below(100);
+    let left = random.between(1, 61);
+    let mut message = header((before + left) as u32, 1, channels, 0);
+    message.extend(chunks_for(random, before, channels).bytes);
+    message.push(0xc0 + random.between(left + 1, 62) as u8 - 1);
+    message.extend(MARKER);
+    if random.one_in(8) {
+        message.truncate(message.len() - random.between(1, 8));
+    }
+    message
+}
+
+/// Mostly INDEX chunks, of any slot.
+pub fn empty_slots(random: &mut Random) -> Vec<u8> {
+    let channels = 3 + random.below(2) as u8;
+    let mut chunks = Chunks::default();
+    for _ in 0..random.between(1, 40) {
+        match random.below(8) {
+            0 => chunks.step(random),
+            1 => chunks.colour(random, channels),
+            2 => chunks.run(random, 3),
+            3 => chunks.index(random),
+            _ => chunks.push(&[random.byte() % 64], 1),
+        }
+    }
+    let mut message = header(1, chunks.pixels as u32, channels, 1);
+    message.extend(chunks.bytes);
+    message.extend(MARKER);
+    message
+}
+
+/// A three-channel source that has come to an ff, after some pixels and before some others.
+pub fn stuck(random: &mut Random) -> Vec<u8> {
+    let before = random.below(8);
+    let left = random.between(1, 8);
+    let mut message = header((before + left) as u32, 1, 3, 0);
+    message.extend(chunks_for(random, before, 3).bytes);
+    message.push(0xff);
+    message
+}
+
+/// An accepted message, and bytes after its marker.
+pub fn bytes_after(random: &mut Random) -> Vec<u8> {
+    let mut message = accepted_message(random, 60);
+    match random.below(4) {
+        0 => message.extend(MARKER),
+        1 => message.extend(accepted_message(random, 10)),
+        2 => message.resize(message.len() + random.between(1, 40), random.byte()),
+        _ => (0..random.between(1, 40)).for_each(|_| message.push(random.byte())),
+    }
+    message
+}
+
+/// More pixels than sixteen bits count, in few chunks: mostly runs.
+fn wide(random: &mut Random) -> Vec<u8> {
+    let channels = 3 + random.below(2) as u8;
+    let mut chunks = Chunks::default();
+    while chunks.pixels < 66_000 {
+        chunks.push(&[0xfd], 62);
+        if random.one_in(4) {
+            chunks.colour(random, channels);
+            chunks.index(random);
+        }
+    }
+    let mut message = header(2, chunks.pixels as u32 / 2, channels, 0);
+    message.extend(chunks.bytes);
+    message.extend(MARKER);
+    message
+}
+
+/// Of every kind: accepted and refused, whole, cut and damaged.
+pub fn any_message(random: &mut Random) -> Vec<u8> {
+    if random.one_in(500) {
+        return wide(random);
+    }
+    let mut message = match random.below(12) {
+        0 => good_message(random, 200),
+        1 => accepted_message(random, 400),
+        2 => random_message(random),
+        3 => run_past(random),
+        4 => empty_slots(random),
+        5 => bytes_after(random),
+        6 => {
+            let mut message = stuck(random);
+            let few = if random.one_in(2) { 2 } else { 255 };
+            (0..random.below(20)).for_each(|_| message.push(random.byte() % few));
+            message
+        }
+        7 => {
+            let mut message = accepted_message(random, 60);
+            let place = message.len() - random.between(1, 8);
+            message[place] ^= 1 << random.below(8);
+            message
+        }
+        _ => return mostly_damaged(random),
+    };
+    if random.one_in(16) {
+        message.truncate(random.below(message.len() + 1));
+    }
+    message
+}
+
+/// A good message, cut anywhere or damaged in up to four places.
+fn mostly_damaged(random: &mut Random) -> Vec<u8> {
+    let mut message = good_message(random, 200);
+    if random.one_in(3) {
+        message.truncate(14 + random.below(message.len() - 13));
+        return message;
+    }
+    let start = if random.one_in(8) { 0 } else { 14 };
+    for _ in 0..random.between(1, 4) {
+        damage(random, &mut message, start);
+    }
+    message
+}
