@@ -12,6 +12,10 @@ impl Answer {
         Self { number: 0, figures }
     }
 
+    pub const fn refused(number: u64, figures: [u64; 4]) -> Self {
+        Self { number, figures }
+    }
+
     pub fn is_accepted(&self) -> bool {
         self.number == 0
     }

@@ -1,20 +1,25 @@
 // The kinds of cases: which messages, wanted channels and outputs the port and the Rust are called with.
+use crate::budgets::budgets;
 use crate::check::{Check, MARKER};
+use crate::histories::histories;
 use crate::messages::{
     self, accepted_message, any_header, damage, good_message, header, mostly_accepted,
     random_message,
 };
 use crate::oracle;
 use crate::random::Random;
+use crate::records;
 
 pub enum Cases {
     /// Every one of so many, by its number.
     All(u64, fn(&mut Check, u64)),
     /// Made at random, one or a few at a time, until there are enough.
     Some(fn(&mut Check, &mut Random)),
+    /// The same, so many times fewer, each being that much longer.
+    Fewer(u64, fn(&mut Check, &mut Random)),
 }
 
-pub const KINDS: [(&str, Cases); 17] = [
+pub const KINDS: [(&str, Cases); 25] = [
     (
         "headers, each byte at each place",
         Cases::All(10 * 14 * 256, each_header_byte),
@@ -44,6 +49,23 @@ pub const KINDS: [(&str, Cases); 17] = [
     ("outputs too short", Cases::Some(short_outputs)),
     ("outputs longer than needed", Cases::Some(longer_outputs)),
     ("wanted other than 3 and 4", Cases::Some(other_wanted)),
+    ("histories", Cases::Fewer(10, histories)),
+    ("budgets of steps", Cases::Fewer(5, budgets)),
+    ("starts", Cases::Fewer(4, records::starts)),
+    ("runs on too little", Cases::Fewer(10, records::short_runs)),
+    (
+        "records, each byte at each place",
+        Cases::All(
+            records::FEW * (records::LONGEST + 1) * 256,
+            records::each_byte,
+        ),
+    ),
+    (
+        "records, every truncation",
+        Cases::Fewer(4, records::truncations),
+    ),
+    ("records, damaged", Cases::Some(records::damaged)),
+    ("records, numbers in them", Cases::Some(records::numbers)),
 ];
 
 /// No output of a case is longer, but those of the images.

@@ -1,5 +1,6 @@
 // One case: the port and the Rust are called on the same input, over memory that holds the same bytes before, and any difference is kept.
 use crate::answer::Answer;
+use crate::port::MORE;
 use crate::random::Random;
 use crate::{oracle, port};
 use std::fmt::Write;
@@ -12,14 +13,14 @@ const MARGIN: usize = 64;
 /// So many patterns stand in memory by turns.
 const PATTERNS: usize = 1021;
 
-/// So many differences are kept: those of the shortest messages, and of a message its first so many bytes.
+/// So many differences are kept: those of the shortest inputs, and of an input its first so many bytes.
 const KEPT: usize = 5;
 const SHOWN: usize = 2000;
 
-/// How many cases the Rust answered with each number, and how often the port did otherwise.
+/// How many cases the Rust answered with each number (of records: the rules), and how often the port did otherwise.
 #[derive(Clone, Copy, Default)]
 pub struct Tally {
-    pub answers: [u64; 9],
+    pub answers: [u64; 10],
     pub differences: u64,
 }
 
@@ -86,6 +87,22 @@ impl Check {
                 &text,
                 message,
             );
+        }
+    }
+
+    /// A case of any other kind: the number that was expected, more to do being none, and what was found otherwise.
+    pub fn case(
+        &mut self,
+        number: u64,
+        result: Result<(), String>,
+        call: &str,
+        name: &str,
+        input: &[u8],
+    ) {
+        let number = if number == MORE { 0 } else { number };
+        self.tally.answers[number as usize] += 1;
+        if let Err(text) = result {
+            self.differs_on(call, &text, name, input);
         }
     }
 
@@ -189,20 +206,24 @@ impl Check {
     }
 
     fn differs(&mut self, call: &str, text: &str, message: &[u8]) {
+        self.differs_on(call, text, "message", message);
+    }
+
+    fn differs_on(&mut self, call: &str, text: &str, name: &str, input: &[u8]) {
         self.tally.differences += 1;
-        if self.found.len() == KEPT && self.found[KEPT - 1].length <= message.len() {
+        if self.found.len() == KEPT && self.found[KEPT - 1].length <= input.len() {
             return;
         }
         let mut shown = format!(
-            "{}: {call}: {text}; message of {} bytes:\n   ",
+            "{}: {call}: {text}; {name} of {} bytes:\n   ",
             self.kind,
-            message.len()
+            input.len()
         );
-        for byte in message.iter().take(SHOWN) {
+        for byte in input.iter().take(SHOWN) {
             write!(shown, " {byte:02x}").expect("a string has room");
         }
         self.found.push(Difference {
-            length: message.len(),
+            length: input.len(),
             text: shown,
         });
         self.found.sort_by_key(|d| d.length);

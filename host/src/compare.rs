@@ -2,6 +2,7 @@
 use crate::answer::Answer;
 use crate::cases::{Cases, KINDS};
 use crate::check::{Check, Tally};
+use crate::histories::check_history;
 use crate::images::{self, Image};
 use crate::random::Random;
 use crate::sha256::sha256;
@@ -14,6 +15,9 @@ const WHOLE: u64 = 8;
 
 /// Cut and damaged copies of an image are so many times fewer: each is as long as thousands of other cases.
 const IMAGES: u64 = 100;
+/// One history more on each image, to three channels and to four, for so many cases of other kinds.
+const HISTORIES: u64 = 500_000;
+/// Where there are to be fewer, there are not fewer than this.
 const FEWEST: u64 = 1000;
 
 /// The i-th of `total`, in an order whose first few come from all over: each comes once, since the factor is a prime that divides no `total`.
@@ -34,13 +38,21 @@ fn run_kind(check: &mut Check, random: &mut Random, kind: &Cases, cases: u64) ->
                 format!("1 in {:.1}", total as f64 / count as f64)
             }
         }
-        Cases::Some(run) => {
-            while check.tally().cases() < cases {
-                run(check, random);
-            }
-            String::new()
-        }
+        Cases::Some(run) => run_enough(check, random, run, cases),
+        Cases::Fewer(times, run) => run_enough(check, random, run, FEWEST.max(cases / times)),
     }
+}
+
+fn run_enough(
+    check: &mut Check,
+    random: &mut Random,
+    run: fn(&mut Check, &mut Random),
+    cases: u64,
+) -> String {
+    while check.tally().cases() < cases {
+        run(check, random);
+    }
+    String::new()
 }
 
 /// The images as they are: header, both wanted, and what expected.tsv says of header and pixels.
@@ -86,18 +98,28 @@ fn damaged_images(check: &mut Check, random: &mut Random, images: &[Image], case
     }
 }
 
+fn image_histories(check: &mut Check, random: &mut Random, images: &[Image], times: u64) {
+    for image in images {
+        for wanted in [3, 4].iter().cycle().take(2 * times as usize) {
+            check_history(check, random, &image.message, *wanted, u64::MAX);
+        }
+    }
+}
+
 fn print(kind: &str, tally: &Tally, note: &str) {
     let (cases, differences) = (tally.cases(), tally.differences);
-    let [accepted, cut, .., no_marker] = tally.answers;
-    let others = cases - accepted - cut - no_marker;
-    println!("{kind:36} {cases:10} {accepted:10} {cut:9} {others:9} {no_marker:9} {differences:11}  {note}");
+    let [accepted, cut, .., no_marker, bad] = tally.answers;
+    let others = cases - accepted - cut - no_marker - bad;
+    println!(
+        "{kind:36} {cases:10} {accepted:10} {cut:9} {others:9} {no_marker:9} {bad:9} {differences:11}  {note}"
+    );
 }
 
 pub fn run(cases: u64, seed: u64, folder: &Path) -> ExitCode {
-    println!("seed {seed}; the columns after the cases: how the Rust answered them");
+    println!("seed {seed}; the columns after the cases: how the Rust answered them, or how the rules answer records");
     println!(
-        "{:36} {:>10} {:>10} {:>9} {:>9} {:>9} {:>11}",
-        "kind", "cases", "accepted", "refused 1", "2 to 7", "8", "differences"
+        "{:36} {:>10} {:>10} {:>9} {:>9} {:>9} {:>9} {:>11}",
+        "kind", "cases", "accepted", "refused 1", "2 to 7", "8", "9", "differences"
     );
     let mut check = Check::default();
     let mut total = Tally::default();
@@ -125,6 +147,12 @@ pub fn run(cases: u64, seed: u64, folder: &Path) -> ExitCode {
         check.begin(kind);
         let count = (cases / IMAGES).max(FEWEST);
         damaged_images(&mut check, &mut random(kind), &images, count);
+        print(kind, &check.tally(), "");
+        total.add(&check.tally());
+        let kind = "published images, histories";
+        check.begin(kind);
+        let times = 1 + cases / HISTORIES;
+        image_histories(&mut check, &mut random(kind), &images, times);
         print(kind, &check.tally(), "");
         total.add(&check.tally());
     }

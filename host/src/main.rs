@@ -1,17 +1,23 @@
 // The host of the port's exported functions: `host compare` holds them to crate qoi 0.4.1 on the same inputs, `host bench` times them against it.
 mod answer;
 mod bench;
+mod budgets;
 mod cases;
 mod check;
 mod compare;
+mod histories;
 mod images;
 mod messages;
 mod oracle;
+mod output;
 mod pictures;
 mod port;
 mod random;
+mod record;
+mod records;
 mod refusal;
 mod sha256;
+mod trace;
 
 use std::path::PathBuf;
 use std::process::ExitCode;

@@ -11,7 +11,30 @@ extern "C" {
         out_length: usize,
         figures: *mut [u64; 4],
     ) -> u64;
+    fn pivotshade_start(
+        message: *const u8,
+        length: usize,
+        wanted: u64,
+        record: *mut u8,
+        record_length: usize,
+        figures: *mut [u64; 4],
+    ) -> u64;
+    fn pivotshade_run(
+        message: *const u8,
+        length: usize,
+        record: *const u8,
+        record_length: usize,
+        out: *mut u8,
+        out_length: usize,
+        steps: u64,
+        next: *mut u8,
+        next_length: usize,
+        figures: *mut [u64; 4],
+    ) -> u64;
 }
+
+/// What a run answers that has more to do.
+pub const MORE: u64 = 256;
 
 /// What the figures hold before a call: each of the four must be written, the zeros too.
 const UNWRITTEN: [u64; 4] = [0x5555_5555_5555_5555; 4];
@@ -35,6 +58,44 @@ pub fn decode(message: &[u8], wanted: u64, out: &mut [u8]) -> Answer {
             wanted,
             out.as_mut_ptr(),
             out.len(),
+            &mut figures,
+        )
+    };
+    Answer { number, figures }
+}
+
+/// The first record's length.
+pub fn start(message: &[u8], wanted: u64, record: &mut [u8]) -> Answer {
+    let mut figures = UNWRITTEN;
+    // the port reads message[..] alone and writes record[..] and the four figures alone
+    let number = unsafe {
+        pivotshade_start(
+            message.as_ptr(),
+            message.len(),
+            wanted,
+            record.as_mut_ptr(),
+            record.len(),
+            &mut figures,
+        )
+    };
+    Answer { number, figures }
+}
+
+/// Takes up a record for at most so many steps. 0: what decode answers; `MORE`: the length of the record in `next`.
+pub fn run(message: &[u8], record: &[u8], out: &mut [u8], steps: u64, next: &mut [u8]) -> Answer {
+    let mut figures = UNWRITTEN;
+    // the port reads message[..] and record[..] alone and writes out[..], next[..] and the four figures alone
+    let number = unsafe {
+        pivotshade_run(
+            message.as_ptr(),
+            message.len(),
+            record.as_ptr(),
+            record.len(),
+            out.as_mut_ptr(),
+            out.len(),
+            steps,
+            next.as_mut_ptr(),
+            next.len(),
             &mut figures,
         )
     };

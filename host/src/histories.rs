@@ -1,0 +1,194 @@
+// Histories: workers that stop, die and take up checkpoints in any order on one output, which must end as the Rust's uncut decode would leave it.
+use crate::answer::Answer;
+use crate::check::Check;
+use crate::messages::any_message;
+use crate::output::{self, Next, Output, Ran};
+use crate::random::Random;
+use crate::trace::{Trace, MOST};
+
+/// At most so many workers at once.
+const WORKERS: usize = 3;
+
+struct History<'a> {
+    /// As the runs are lent it: a step never looks at the header.
+    message: &'a [u8],
+    trace: &'a Trace,
+    output: Output,
+    /// Every checkpoint so far: the steps done since the start, and the record.
+    kept: Vec<(usize, Vec<u8>)>,
+    /// Each by the checkpoint that it stands at.
+    workers: Vec<usize>,
+    /// The bytes from the output's first on that are the uncut decode's.
+    valid: usize,
+    /// Whether a worker has ended since they were all written.
+    is_ended: bool,
+}
+
+impl History<'_> {
+    fn bytes(&self, kept: usize) -> usize {
+        self.trace.bytes(self.kept[kept].0)
+    }
+
+    /// Often 1 or 2, now and then some hundreds; more of them where the message is long.
+    fn some_steps(&self, random: &mut Random) -> u64 {
+        let pace = random.between(1, 1 + self.trace.steps() / 100);
+        let steps = match random.below(16) {
+            0 => 0,
+            1..=5 => 1,
+            6..=8 => 2,
+            9..=12 => random.between(1, 10) * pace,
+            _ => random.between(1, 300) * pace,
+        };
+        if random.one_in(64) {
+            return *random.pick(&[1 << 31, 1 << 32, 1 << 63, u64::MAX]);
+        }
+        steps as u64
+    }
+
+    /// A worker goes on from its checkpoint and leaves the next one, or ends; or dies, if it may, before it can leave one.
+    fn work(&mut self, random: &mut Random, may_die: bool) -> Result<(), String> {
+        if self.workers.is_empty() {
+            return Ok(());
+        }
+        let i = random.below(self.workers.len());
+        let worker = self.workers[i];
+        let next = match random.below(8) {
+            0 if may_die => Next::Short,
+            1..=4 => Next::Exact,
+            _ => Next::Longer,
+        };
+        let steps = self.some_steps(random);
+        let from = self.bytes(worker);
+        let (done, record) = &self.kept[worker];
+        let stand = (*done, &record[..]);
+        let ran = self
+            .output
+            .run(random, self.message, self.trace, stand, steps, next)?;
+        match ran {
+            Ran::More(reached, record) => {
+                if from <= self.valid {
+                    self.valid = self.valid.max(self.trace.bytes(reached));
+                }
+                self.workers[i] = self.kept.len();
+                self.kept.push((reached, record));
+            }
+            Ran::Lost => drop(self.workers.swap_remove(i)),
+            Ran::Ended => {
+                if from <= self.valid {
+                    self.valid = self.trace.bytes(self.trace.steps());
+                    self.is_ended = true;
+                }
+                self.workers.swap_remove(i);
+            }
+        }
+        Ok(())
+    }
+
+    /// One more worker takes up a checkpoint before which the output is right, old or new.
+    fn take_up(&mut self, random: &mut Random, which: impl Fn(&[usize], &mut Random) -> usize) {
+        let fit: Vec<usize> = (0..self.kept.len())
+            .filter(|&kept| self.bytes(kept) <= self.valid)
+            .collect();
+        let kept = which(&fit, random);
+        self.workers.push(kept);
+    }
+
+    /// Workers die, and whatever stands from some checkpoint's pixel on is lost. At times another copy of the output stands in for this one: it
+    /// is right before a checkpoint that this one is not right before.
+    fn crash(&mut self, random: &mut Random) {
+        for _ in 0..random.below(self.workers.len() + 1) {
+            self.workers.pop();
+        }
+        let kept = random.below(self.kept.len());
+        let from = self.bytes(kept);
+        if random.one_in(4) {
+            self.output.restore(self.trace, from);
+            self.valid = self.valid.max(from);
+        }
+        self.output.scribble(random, from);
+        self.valid = self.valid.min(from);
+        self.is_ended = false;
+    }
+
+    fn play(&mut self, random: &mut Random) -> Result<(), String> {
+        for _ in 0..random.between(1, 50) {
+            match random.below(16) {
+                0 | 1 => self.crash(random),
+                2 | 3 if self.workers.len() < WORKERS => {
+                    self.take_up(random, |fit, random| *random.pick(fit));
+                }
+                4 => drop(self.workers.pop()),
+                _ => self.work(random, true)?,
+            }
+        }
+        // the last take-up, and the slow workers that are left
+        let whole = self.trace.bytes(self.trace.steps());
+        while !self.workers.is_empty() || !self.is_ended || self.valid < whole {
+            if self.workers.is_empty() || random.one_in(20) {
+                self.take_up(random, |fit, _| fit[fit.len() - 1]);
+            }
+            self.work(random, false)?;
+        }
+        Ok(())
+    }
+}
+
+/// One history, on an output that is so much longer than needed.
+fn history(
+    random: &mut Random,
+    message: &[u8],
+    wanted: u64,
+    trace: &Result<Trace, Answer>,
+    more: usize,
+) -> Result<(), String> {
+    let room = *random.pick(&[277, 277, 278, 290, 400]);
+    let record = output::start(message, trace, wanted, room, random.byte())?;
+    let trace = match trace {
+        Ok(trace) => trace,
+        Err(_) => return Ok(()),
+    };
+    let mut lent = message.to_vec();
+    if random.one_in(4) {
+        lent[..14].fill_with(|| random.byte());
+    }
+    let mut history = History {
+        message: &lent,
+        trace,
+        output: Output::new(random, trace.written.len() + more),
+        kept: vec![(0, record)],
+        workers: vec![0],
+        valid: 0,
+        is_ended: false,
+    };
+    history.play(random)?;
+    history.output.is_as_uncut(message, wanted, trace)
+}
+
+/// A case of a history, on a message whose picture may take so many bytes.
+pub fn check_history(
+    check: &mut Check,
+    random: &mut Random,
+    message: &[u8],
+    wanted: u64,
+    most: u64,
+) {
+    let more = if random.one_in(4) {
+        random.between(1, 40)
+    } else {
+        0
+    };
+    let trace = Trace::new(message, wanted, most);
+    let number = match &trace {
+        Ok(trace) => trace.answer.number,
+        Err(refusal) => refusal.number,
+    };
+    let result = history(random, message, wanted, &trace, more);
+    let call = format!("to {wanted} channels, output longer by {more}");
+    check.case(number, result, &call, "message", message);
+}
+
+pub fn histories(check: &mut Check, random: &mut Random) {
+    let message = any_message(random);
+    let wanted = 3 + random.below(2) as u64;
+    check_history(check, random, &message, wanted, MOST);
+}

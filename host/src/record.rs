@@ -1,0 +1,107 @@
+// Checkpoint records, written and read from document 01's rules alone: what the port's records, and its refusals of bad ones, are held to.
+use crate::answer::Answer;
+use crate::oracle;
+
+/// The state that a record holds.
+#[derive(Clone, Debug, PartialEq, Eq)]
+pub struct Record {
+    pub header: [u8; 14],
+    pub wanted: u64,
+    pub at: u64,
+    pub pixel: u64,
+    pub current: [u8; 4],
+    pub slots: [[u8; 4]; 64],
+}
+
+/// Cut short.
+const CUT: Answer = Answer::refused(1, [0; 4]);
+/// A bad state or record.
+const BAD: Answer = Answer::refused(9, [0; 4]);
+
+/// A number in groups of seven bits, the low group first, the top bit set on all bytes but the last.
+pub fn put_number(bytes: &mut Vec<u8>, mut number: u64) {
+    while number >= 0x80 {
+        bytes.push(number as u8 | 0x80);
+        number >>= 7;
+    }
+    bytes.push(number as u8);
+}
+
+impl Record {
+    pub fn write(&self) -> Vec<u8> {
+        let mut bytes = Vec::with_capacity(290);
+        bytes.extend(self.header);
+        for number in [self.wanted, self.at, self.pixel] {
+            put_number(&mut bytes, number);
+        }
+        bytes.extend(self.current);
+        bytes.extend(self.slots.concat());
+        bytes
+    }
+
+    /// From left to right, the first fault on the way; then those of the state, then bytes after it.
+    pub fn read(bytes: &[u8]) -> Result<Self, Answer> {
+        let answer = oracle::header(bytes);
+        if !answer.is_accepted() {
+            return Err(answer);
+        }
+        let mut reader = Reader(bytes);
+        let header = reader.array()?;
+        let wanted = reader.number()?;
+        if wanted != 3 && wanted != 4 {
+            return Err(Answer::refused(2, [wanted.min(255), 0, 0, 0]));
+        }
+        let (at, pixel) = (reader.number()?, reader.number()?);
+        let current = reader.array()?;
+        let mut slots = [[0; 4]; 64];
+        for slot in &mut slots {
+            *slot = reader.array()?;
+        }
+        let [width, height, _, _] = answer.figures;
+        let is_opaque = current[3] == 255 || wanted == 4;
+        if at < 14 || pixel > width * height || !is_opaque || !reader.0.is_empty() {
+            return Err(BAD);
+        }
+        Ok(Self {
+            header,
+            wanted,
+            at,
+            pixel,
+            current,
+            slots,
+        })
+    }
+}
+
+/// What is left of a record.
+struct Reader<'a>(&'a [u8]);
+
+impl Reader<'_> {
+    fn array<const N: usize>(&mut self) -> Result<[u8; N], Answer> {
+        if self.0.len() < N {
+            return Err(CUT);
+        }
+        let (first, rest) = self.0.split_at(N);
+        self.0 = rest;
+        Ok(first.try_into().expect("so many"))
+    }
+
+    /// The last byte of the shortest form is 00 for the number 0 alone, and a tenth byte 01 always.
+    fn number(&mut self) -> Result<u64, Answer> {
+        let mut number = 0;
+        for place in 0..10 {
+            let [byte] = self.array()?;
+            if place == 9 && byte != 1 {
+                return Err(BAD);
+            }
+            number |= u64::from(byte % 128) << (7 * place);
+            if byte < 128 {
+                if byte == 0 && place > 0 {
+                    return Err(BAD);
+                }
+                break;
+            }
+        }
+        Ok(number)
+    }
+}
