@@ -1,10 +1,12 @@
-// The command `bench`: decode timed against the Rust's, in one process, by turns, the least of many times.
+// The command `bench`: decode timed against the Rust's, and runs of some thousand steps against decode, in one process, by turns, the least of
+// many times.
 //
 // Both read the same message and write the same output: one buffer of exactly the length needed, lent to each in turn, so that length,
 // alignment and what the caches hold are the same for both. Both calls read the header, test the output's length and decode.
 use crate::answer::Answer;
 use crate::images;
 use crate::pictures::{self, Picture};
+use crate::port::MORE;
 use crate::{oracle, port};
 use std::path::Path;
 use std::process::ExitCode;
@@ -13,6 +15,9 @@ use std::time::Instant;
 /// So many pixels are decoded by each for one line of the table, in at least so many turns.
 const PIXELS: usize = 300_000_000;
 const TURNS: usize = 100;
+
+/// The steps of a run: what a worker does between two checkpoints.
+const SLICE: u64 = 4096;
 
 type Decode = fn(&[u8], u64, &mut [u8]) -> Answer;
 type Make = fn(usize) -> Picture;
@@ -26,25 +31,42 @@ fn time(decode: Decode, message: &[u8], wanted: u64, out: &mut [u8]) -> f64 {
     elapsed.as_nanos() as f64
 }
 
-/// The least time of the port and of the Rust.
-fn race(message: &[u8], wanted: u64, pixels: usize) -> (f64, f64) {
+/// A whole decode as a worker does it: a start, then run after run, each from the record that the one before it left.
+fn decode_in_slices(message: &[u8], wanted: u64, out: &mut [u8]) -> Answer {
+    let (mut record, mut next) = ([0; 290], [0; 290]);
+    let mut answer = port::start(message, wanted, &mut record);
+    if !answer.is_accepted() {
+        return answer;
+    }
+    loop {
+        let length = answer.figures[0] as usize;
+        answer = port::run(message, &record[..length], out, SLICE, &mut next);
+        if answer.number != MORE {
+            return answer;
+        }
+        std::mem::swap(&mut record, &mut next);
+    }
+}
+
+/// The least time of one and of the other.
+fn race(one: Decode, other: Decode, message: &[u8], wanted: u64, pixels: usize) -> (f64, f64) {
     let mut out = vec![0; pixels * wanted as usize];
-    let mut rusts = out.clone();
-    assert!(port::decode(message, wanted, &mut out).is_accepted());
-    assert!(oracle::decode(message, wanted, &mut rusts).is_accepted());
-    assert!(out == rusts, "the pixels differ: run ./compare");
-    let (mut ours, mut rust) = (f64::MAX, f64::MAX);
+    let mut others = out.clone();
+    assert!(one(message, wanted, &mut out).is_accepted());
+    assert!(other(message, wanted, &mut others).is_accepted());
+    assert!(out == others, "the pixels differ: run ./compare");
+    let (mut ones, mut others) = (f64::MAX, f64::MAX);
     for turn in 0..(PIXELS / pixels).max(TURNS) {
         // each goes first as often as the other
         if turn % 2 == 0 {
-            ours = ours.min(time(port::decode, message, wanted, &mut out));
+            ones = ones.min(time(one, message, wanted, &mut out));
         }
-        rust = rust.min(time(oracle::decode, message, wanted, &mut out));
+        others = others.min(time(other, message, wanted, &mut out));
         if turn % 2 == 1 {
-            ours = ours.min(time(port::decode, message, wanted, &mut out));
+            ones = ones.min(time(one, message, wanted, &mut out));
         }
     }
-    (ours, rust)
+    (ones, others)
 }
 
 /// The published images; those of three channels, which are photographs, also with four; and what can be made of nothing.
@@ -82,24 +104,24 @@ fn geometric_mean(ratios: &[f64]) -> f64 {
     (logarithms / ratios.len() as f64).exp()
 }
 
-pub fn run(folder: &Path) -> ExitCode {
-    println!("decode: the least of many times, in microseconds; a number after a name: the channels it was encoded with here");
+/// One table: a line for each message and wanted, then the means and the largest.
+fn table(names: [&str; 2], one: Decode, other: Decode, messages: &[(String, Vec<u8>)]) {
     println!(
         "{:24} {:>8} {:>7} {:>10} {:>10} {:>7}",
-        "message", "pixels", "wanted", "ours", "Rust", "ratio"
+        "message", "pixels", "wanted", names[0], names[1], "ratio"
     );
     let mut ratios = [Vec::new(), Vec::new()];
     let mut largest = (0.0, String::new());
-    for (name, message) in messages(folder) {
-        let [width, height, _, _] = oracle::header(&message).figures;
+    for (name, message) in messages {
+        let [width, height, _, _] = oracle::header(message).figures;
         let pixels = (width * height) as usize;
         for wanted in [3, 4] {
-            let (ours, rust) = race(&message, wanted, pixels);
-            let ratio = ours / rust;
+            let (ones, others) = race(one, other, message, wanted, pixels);
+            let ratio = ones / others;
             println!(
                 "{name:24} {pixels:8} {wanted:7} {:10.1} {:10.1} {ratio:7.3}",
-                ours / 1e3,
-                rust / 1e3
+                ones / 1e3,
+                others / 1e3
             );
             ratios[wanted as usize - 3].push(ratio);
             if ratio > largest.0 {
@@ -118,5 +140,22 @@ pub fn run(folder: &Path) -> ExitCode {
     );
     println!("largest ratio {:.3}: {}", largest.0, largest.1);
     println!("geometric mean {:.3}", geometric_mean(&ratios.concat()));
+}
+
+pub fn run(folder: &Path) -> ExitCode {
+    let messages = messages(folder);
+    println!("The least of many times, in microseconds; a number after a name: the channels it was encoded with here.");
+    println!("decode against the Rust's:");
+    table(["ours", "Rust"], port::decode, oracle::decode, &messages);
+    println!();
+    println!(
+        "runs of {SLICE} steps, each from the record that the one before it left, against decode:"
+    );
+    table(
+        ["runs", "decode"],
+        decode_in_slices,
+        port::decode,
+        &messages,
+    );
     ExitCode::SUCCESS
 }
