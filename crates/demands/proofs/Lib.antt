@@ -6,3 +6,4 @@ pub mod TakeOver
 pub mod Partly
 pub mod Workers
 pub mod Worked
+pub mod Written
