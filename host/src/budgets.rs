@@ -1,7 +1,7 @@
 // The bound on steps: from each checkpoint the pixels missing and one more end the decode, and n steps, then m, are n + m.
 use crate::check::Check;
 use crate::messages::any_message;
-use crate::output::{self, Next, Output, Ran};
+use crate::output::{self, Next, Output, Ran, Stand};
 use crate::random::Random;
 use crate::trace::{Trace, MOST};
 
@@ -18,15 +18,13 @@ struct Budget<'a> {
 
 impl Budget<'_> {
     fn run(&self, random: &mut Random, output: &mut Output, steps: usize) -> Result<Ran, String> {
-        let stand = (self.done, &self.record[..]);
-        output.run(
-            random,
-            self.message,
-            self.trace,
-            stand,
-            steps as u64,
-            Next::Exact,
-        )
+        let stand = Stand {
+            message: self.message,
+            trace: self.trace,
+            done: self.done,
+            record: &self.record,
+        };
+        output.run(random, stand, steps as u64, Next::Exact)
     }
 
     /// Such a run must end. What stands before the checkpoint's pixel is anything here, and must stay.

@@ -2,7 +2,7 @@
 use crate::answer::Answer;
 use crate::check::Check;
 use crate::messages::any_message;
-use crate::output::{self, Next, Output, Ran};
+use crate::output::{self, Next, Output, Ran, Stand};
 use crate::random::Random;
 use crate::trace::{Trace, MOST};
 
@@ -14,6 +14,8 @@ struct History<'a> {
     message: &'a [u8],
     trace: &'a Trace,
     output: Output,
+    /// How far a worker comes in one run.
+    most: usize,
     /// Every checkpoint so far: the steps done since the start, and the record.
     kept: Vec<(usize, Vec<u8>)>,
     /// Each by the checkpoint that it stands at.
@@ -29,20 +31,16 @@ impl History<'_> {
         self.trace.bytes(self.kept[kept].0)
     }
 
-    /// Often 1 or 2, now and then some hundreds; more of them where the message is long.
+    /// Often 1 or 2, otherwise up to `most`, and more of them where the message is long.
     fn some_steps(&self, random: &mut Random) -> u64 {
         let pace = random.between(1, 1 + self.trace.steps() / 100);
-        let steps = match random.below(16) {
-            0 => 0,
-            1..=5 => 1,
-            6..=8 => 2,
-            9..=12 => random.between(1, 10) * pace,
-            _ => random.between(1, 300) * pace,
-        };
-        if random.one_in(64) {
-            return *random.pick(&[1 << 31, 1 << 32, 1 << 63, u64::MAX]);
+        match random.below(128) {
+            0 => *random.pick(&[1 << 31, 1 << 32, 1 << 63, u64::MAX]),
+            1..=7 => 0,
+            8..=50 => 1,
+            51..=80 => 2,
+            _ => (random.between(1, self.most) * pace) as u64,
         }
-        steps as u64
     }
 
     /// A worker goes on from its checkpoint and leaves the next one, or ends; or dies, if it may, before it can leave one.
@@ -60,11 +58,13 @@ impl History<'_> {
         let steps = self.some_steps(random);
         let from = self.bytes(worker);
         let (done, record) = &self.kept[worker];
-        let stand = (*done, &record[..]);
-        let ran = self
-            .output
-            .run(random, self.message, self.trace, stand, steps, next)?;
-        match ran {
+        let stand = Stand {
+            message: self.message,
+            trace: self.trace,
+            done: *done,
+            record,
+        };
+        match self.output.run(random, stand, steps, next)? {
             Ran::More(reached, record) => {
                 if from <= self.valid {
                     self.valid = self.valid.max(self.trace.bytes(reached));
@@ -124,7 +124,7 @@ impl History<'_> {
         // the last take-up, and the slow workers that are left
         let whole = self.trace.bytes(self.trace.steps());
         while !self.workers.is_empty() || !self.is_ended || self.valid < whole {
-            if self.workers.is_empty() || random.one_in(20) {
+            if self.workers.is_empty() {
                 self.take_up(random, |fit, _| fit[fit.len() - 1]);
             }
             self.work(random, false)?;
@@ -155,6 +155,7 @@ fn history(
         message: &lent,
         trace,
         output: Output::new(random, trace.written.len() + more),
+        most: *random.pick(&[2, 10, 300]),
         kept: vec![(0, record)],
         workers: vec![0],
         valid: 0,

@@ -18,6 +18,17 @@ pub enum Next {
     Short,
 }
 
+impl Next {
+    /// For a record of so many bytes.
+    fn room(self, random: &mut Random, length: usize) -> usize {
+        match self {
+            Next::Exact => length,
+            Next::Longer => 290 + random.below(10),
+            Next::Short => random.below(length.max(1)),
+        }
+    }
+}
+
 #[derive(PartialEq, Eq)]
 pub enum Ran {
     /// The steps done since the start, and the record that says so.
@@ -25,6 +36,62 @@ pub enum Ran {
     /// Steps were done, and no record of them is left.
     Lost,
     Ended,
+}
+
+/// Where a worker stands: at the record that was written after so many steps.
+#[derive(Clone, Copy)]
+pub struct Stand<'a> {
+    pub message: &'a [u8],
+    pub trace: &'a Trace,
+    pub done: usize,
+    pub record: &'a [u8],
+}
+
+/// What a run must answer, how many steps since the start are then done, and the room that `next` has.
+struct Expected {
+    answer: Answer,
+    reached: usize,
+    room: usize,
+    ran: Ran,
+}
+
+impl Expected {
+    /// 7 for an output too short; the Rust's answer where the steps reach the end; else one record more, or 7 where it has no room.
+    fn of(random: &mut Random, stand: Stand, steps: u64, room: usize, next: Next) -> Self {
+        let trace = stand.trace;
+        let is_short = steps > 0 && (room as u64) < trace.needed;
+        let left = trace.steps() - stand.done;
+        if is_short || steps > left as u64 {
+            let required = [room as u64, trace.needed, 0, 0];
+            return Self {
+                answer: if is_short {
+                    Answer::refused(7, required)
+                } else {
+                    trace.answer
+                },
+                reached: if is_short { stand.done } else { trace.steps() },
+                room: next.room(random, 0),
+                ran: Ran::Ended,
+            };
+        }
+        let reached = stand.done + steps as usize;
+        let record = trace.record(reached).write();
+        let (length, room) = (record.len() as u64, next.room(random, record.len()));
+        let (answer, ran) = if room < record.len() {
+            (Answer::refused(7, [room as u64, length, 0, 0]), Ran::Lost)
+        } else {
+            (
+                Answer::refused(MORE, [length, 0, 0, 0]),
+                Ran::More(reached, record),
+            )
+        };
+        Self {
+            answer,
+            reached,
+            room,
+            ran,
+        }
+    }
 }
 
 #[derive(Clone, PartialEq, Eq)]
@@ -36,7 +103,8 @@ pub struct Output {
     ground: Vec<u8>,
 }
 
-pub fn differs(ours: Answer, expected: Answer) -> Result<(), String> {
+/// Or how they differ.
+pub fn is_same(ours: Answer, expected: Answer) -> Result<(), String> {
     if ours == expected {
         Ok(())
     } else {
@@ -68,7 +136,7 @@ pub fn start(
     };
     model[MARGIN..][..record.len()].copy_from_slice(&record);
     let ours = port::start(message, wanted, &mut memory[MARGIN..][..room]);
-    differs(ours, expected).map_err(|text| format!("start into {room} bytes: {text}"))?;
+    is_same(ours, expected).map_err(|text| format!("start into {room} bytes: {text}"))?;
     if memory != model {
         return Err(format!(
             "start into {room} bytes: both {ours}, another record or bytes beside it"
@@ -108,84 +176,46 @@ impl Output {
         self.ground.copy_from_slice(&self.memory);
     }
 
-    /// A run of at most so many steps, from the record that was written after `done` of them.
+    /// A run of at most so many steps.
     pub fn run(
         &mut self,
         random: &mut Random,
-        message: &[u8],
-        trace: &Trace,
-        (done, record): (usize, &[u8]),
+        stand: Stand,
         steps: u64,
         next: Next,
     ) -> Result<Ran, String> {
         let room = self.room();
-        let left = trace.steps() - done;
-        let is_short = steps > 0 && (room as u64) < trace.needed;
-        let has_more = !is_short && steps <= left as u64;
-        let reached = done
-            + if is_short {
-                0
-            } else {
-                left.min(steps as usize)
-            };
-        let record_after = if has_more {
-            trace.record(reached).write()
-        } else {
-            Vec::new()
-        };
-        let next_room = match next {
-            Next::Exact => record_after.len(),
-            Next::Longer => 290 + random.below(10),
-            Next::Short => random.below(record_after.len().max(1)),
-        };
-        let is_lost = has_more && next_room < record_after.len();
-        let expected = if is_short {
-            Answer::refused(7, [room as u64, trace.needed, 0, 0])
-        } else if is_lost {
-            let required = record_after.len() as u64;
-            Answer::refused(7, [next_room as u64, required, 0, 0])
-        } else if has_more {
-            Answer::refused(MORE, [record_after.len() as u64, 0, 0, 0])
-        } else {
-            trace.answer
-        };
-        let (from, to) = (trace.bytes(done), trace.bytes(reached));
-        self.model[MARGIN + from..MARGIN + to].copy_from_slice(&trace.written[from..to]);
-        let fill = random.byte();
-        let mut nexts = vec![fill; MARGIN + next_room + MARGIN];
+        let expected = Expected::of(random, stand, steps, room, next);
+        let (from, to) = (
+            stand.trace.bytes(stand.done),
+            stand.trace.bytes(expected.reached),
+        );
+        self.model[MARGIN + from..MARGIN + to].copy_from_slice(&stand.trace.written[from..to]);
+        let mut nexts = vec![random.byte(); MARGIN + expected.room + MARGIN];
         let mut nexts_model = nexts.clone();
-        if has_more && !is_lost {
-            nexts_model[MARGIN..][..record_after.len()].copy_from_slice(&record_after);
+        if let Ran::More(_, record) = &expected.ran {
+            nexts_model[MARGIN..][..record.len()].copy_from_slice(record);
         }
         let ours = port::run(
-            message,
-            record,
+            stand.message,
+            stand.record,
             &mut self.memory[MARGIN..][..room],
             steps,
-            &mut nexts[MARGIN..][..next_room],
+            &mut nexts[MARGIN..][..expected.room],
         );
-        let what = || {
-            format!(
-                "run of {steps} steps after {done}, output of {room} bytes, next of {next_room}"
-            )
-        };
-        differs(ours, expected).map_err(|text| format!("{}: {text}", what()))?;
-        if let Some(place) = place_of_difference(&nexts, &nexts_model) {
-            return Err(format!("{}: {ours}, next is wrong at byte {place}", what()));
-        }
-        if let Some(place) = place_of_difference(&self.memory, &self.model) {
-            return Err(format!(
-                "{}: {ours}, the output is wrong at byte {place}",
-                what()
-            ));
-        }
-        Ok(if is_lost {
-            Ran::Lost
-        } else if has_more {
-            Ran::More(reached, record_after)
+        let fault = if ours != expected.answer {
+            format!("port {ours}, expected {}", expected.answer)
+        } else if let Some(place) = place_of_difference(&nexts, &nexts_model) {
+            format!("{ours}, next is wrong at byte {place}")
+        } else if let Some(place) = place_of_difference(&self.memory, &self.model) {
+            format!("{ours}, the output is wrong at byte {place}")
         } else {
-            Ran::Ended
-        })
+            return Ok(expected.ran);
+        };
+        Err(format!(
+            "run of {steps} steps after {}, output of {room} bytes, next of {}: {fault}",
+            stand.done, expected.room
+        ))
     }
 
     /// What the Rust's uncut decode leaves over what something else than a worker left here last; and the same of the port's.
@@ -200,7 +230,7 @@ impl Output {
                 answer.figures[1] = trace.answer.figures[1];
             }
             if trace.needed <= room as u64 {
-                differs(trace.answer, answer)
+                is_same(trace.answer, answer)
                     .map_err(|text| format!("uncut, {whose}'s: {text}"))?;
             }
             if let Some(place) = place_of_difference(&self.memory, &memory) {

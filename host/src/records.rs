@@ -2,7 +2,7 @@
 use crate::answer::Answer;
 use crate::check::Check;
 use crate::messages::{any_header, any_message, damage, header};
-use crate::output::{self, differs};
+use crate::output::{self, is_same};
 use crate::port::{self, MORE};
 use crate::random::Random;
 use crate::record::{put_number, Record};
@@ -69,7 +69,7 @@ fn read(check: &mut Check, random: &mut Random, bytes: &[u8]) {
     } else {
         0
     };
-    let result = differs(ours, expected).and_then(|()| {
+    let result = is_same(ours, expected).and_then(|()| {
         if next[..written] != bytes[..written] {
             Err("another record comes back".to_string())
         } else if next[written..].iter().any(|&byte| byte != fill) {
@@ -250,7 +250,7 @@ pub fn short_runs(check: &mut Check, random: &mut Random) {
         let mut next = [fill; 300];
         let bytes = record.write();
         let ours = port::run(&message[..length], &bytes, &mut out, steps, &mut next);
-        let result = differs(ours, expected).and_then(|()| {
+        let result = is_same(ours, expected).and_then(|()| {
             if next.iter().any(|&b| b != fill) || out.iter().any(|&b| b != output) {
                 return Err(format!("{ours}, and something is written"));
             }
