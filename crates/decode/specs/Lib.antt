@@ -1,3 +1,2 @@
 -- The definitions of crate `decode`.
 pub mod Decoded
-pub mod Inner

@@ -7,9 +7,12 @@ ghost use Rattle.header.specs.Header.{headerOf};
 use header::Header;
 use header::HeaderRead;
 use pixel::error::Error;
-use pixel::types::Channels;
+use resume::Decoder;
+use resume::StartAnswer;
+use resume::StepAnswer;
 
-mod inner;
+// More steps than any picture takes: a chunk for each of its 400,000,000 pixels, and the marker test.
+const EVERY_STEP: u64 = 0xffff_ffff;
 
 pub enum Decoded {
     // Bytes written, and message bytes used: header, chunks and marker.
@@ -21,14 +24,22 @@ pub enum Decoded {
 pub fn decode(message: &[u8], wanted: u64, out: &mut [u8]) -> Decoded
     ensures { λ r. ⌜ (answerOf r ≡ decoding (now (message .entry)) wanted (length (now (out .entry))) .answer) × (now (out .exit) ≡ writtenOver (decoding (now (message .entry)) wanted (length (now (out .entry))) .bytes) (now (out .entry))) ⌝ }
 {
-    match Header::decode(message) {
-        HeaderRead::Refused(e) => Decoded::Refused(e),
-        HeaderRead::Ok(header) => inner::with_wanted(
-            message,
-            header,
-            Channels::try_from(wanted),
-            out,
-        ),
+    let idle = Decoder::idle();
+    let started = idle.start(message, wanted);
+    let answer = started.answer;
+    match answer {
+        StartAnswer::Refused(e) => Decoded::Refused(e),
+        StartAnswer::Ok => {
+            let decoder = started.decoder;
+            let stepped = decoder.run(message, out, EVERY_STEP);
+            let end = stepped.answer;
+            match end {
+                StepAnswer::Refused(e) => Decoded::Refused(e),
+                StepAnswer::Done { size, used } => Decoded::Done { size, used },
+                // Never: every step is more than any picture takes.
+                StepAnswer::More => Decoded::Refused(Error::BadState),
+            }
+        }
     }
 }
 

@@ -2,7 +2,7 @@
 -- Assumes nothing.
 use mathlib.Core.Path.{_≡_, refl, sym, _∙_, ap}
 use mathlib.Core.List.{List}
-use Prim.Native.Nat.{ℕ, zero, suc, _+_, _^_, _<_}
+use Prim.Native.Nat.{ℕ, zero, suc, _+_, _^_, _≤_, _<_}
 use native.Mathlib.Nat.{add-comm}
 use native.Mathlib.Omega.{arith}
 use lib.Dec.{T}
@@ -87,12 +87,17 @@ ends-within m w (suc n) s o b on held few =
         let uncut = ends-as-uncut m w b o s on held answer e in
         (s, rw (← uncut .0, ← uncut .1))
 
--- from every history the end comes within the pixels still missing plus one steps, and is the uncut decode's
+-- from every history the end comes within the pixels still missing plus one steps, and is the uncut decode's; so it is with more steps
+pub enough-steps :
+    {m : List ℕ} {w : ℕ} {s : State} {o b : List ℕ} → Life m w s o b → (n : ℕ) → stepsLeft s ≤ n
+    → EndsAsUncut m w b (running m n s o)
+enough-steps {m} {w} {s} {o} {b} life n enough =
+    let l = lived life in
+    ends-within m w n s o b (l .on-way) (l .holds) (omega arith)
+
 pub take-over :
     {m : List ℕ} {w : ℕ} {s : State} {o b : List ℕ} → Life m w s o b → EndsAsUncut m w b (running m (stepsLeft s) s o)
-take-over {m} {w} {s} {o} {b} life =
-    let l = lived life in
-    ends-within m w (stepsLeft s) s o b (l .on-way) (l .holds) (omega arith)
+take-over {s = s} life = enough-steps life (stepsLeft s) (omega arith)
 
 -- a run that has more to do leads a history on
 pub run-lives :

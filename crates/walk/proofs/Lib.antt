@@ -3,4 +3,3 @@ pub mod Fitting
 pub mod Loop
 pub mod Packed
 pub mod Pasting
-pub mod WalkLaws

@@ -1,4 +1,4 @@
-// The chunks of a decode, from any place and at most so many: the loops that the whole decode and a run share.
+// The chunks of a decode, from any place and at most so many: the hot loops.
 ghost use mathlib.Core.Path.{_≡_};
 ghost use Rattle.pixel.specs.Types.{channelsNumber};
 ghost use Rattle.walk.specs.Walking.{placeOf, walkOf, fits, walkingInto};
