@@ -2,7 +2,7 @@
 use Rattle.decode.specs.declared.Decoded.{Decoded}
 use Rattle.decode.specs.declared.Decoded.the-variants.{Done, Refused}
 use mathlib.Core.List.{List, []}
-use Prim.Native.Nat.{ℕ}
+use Prim.Native.Nat.{ℕ, min}
 use Rattle.pixel.specs.Types.{channelsNumber}
 use Rattle.header.specs.declared.Header.{Header}
 use Rattle.header.specs.declared.HeaderRead.{HeaderRead}
@@ -30,3 +30,8 @@ bufAnswer message room (header-read.Ok header) =
 abbrev pub bufBytes : List ℕ → ℕ → HeaderRead → List ℕ
 bufBytes message room (header-read.Refused e) = []
 bufBytes message room (header-read.Ok header) = decoding message (channelsNumber (header .channels)) room .bytes
+
+-- where the rest of a message of so many bytes begins: after the bytes used, or at its end
+abbrev pub restAt : ℕ → Answer → ℕ
+restAt size (done written used) = min used size
+restAt size (refused e) = size
