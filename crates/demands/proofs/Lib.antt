@@ -7,3 +7,4 @@ pub mod Partly
 pub mod Workers
 pub mod Worked
 pub mod Written
+pub mod Inside

@@ -25,7 +25,7 @@ one-or-other x y z want long each first second = ext-getD 0 x want long (λ i h.
 
 module _ (o new o′ : List ℕ) (partly : Partly o new o′) where
   -- what stands up to a place before a step and after it stands there if it stops inside
-  partly-take : (n : ℕ) (want : List ℕ) → take n o ≡ want → take n new ≡ want → take n o′ ≡ want
+  pub partly-take : (n : ℕ) (want : List ℕ) → take n o ≡ want → take n new ≡ want → take n o′ ≡ want
   partly-take n want old done =
       one-or-other (take n o′) (take n o) (take n new) want
       (simp length-take (omega (arith, partly .same-length, simp length-take at (ap length old))))
