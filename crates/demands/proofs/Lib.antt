@@ -8,3 +8,5 @@ pub mod Workers
 pub mod Worked
 pub mod Written
 pub mod Inside
+pub mod Document
+pub mod Strict

@@ -1,3 +1,5 @@
 -- The demands as definitions: what the theorems of proofs/ say.
 pub mod TakeOver
 pub mod Workers
+pub mod Document
+pub mod Strict

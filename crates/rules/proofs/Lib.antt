@@ -5,3 +5,5 @@ pub mod PlaceLaws
 pub mod ReadingLaws
 pub mod RecordLaws
 pub mod StepLaws
+pub mod StuckLaws
+pub mod TraceLaws

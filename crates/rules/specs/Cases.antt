@@ -15,7 +15,8 @@ use Rattle.header.specs.Header.{headerBytes, headerFrom, afterColorSpace, after
 use Rattle.rules.specs.Chunk.{chunkFrom, chunkAt, colourOf, timesOf, sizeOf}
 use Rattle.rules.specs.Reading.{Reading, marker, sameBytes, repeated, closing, startPlace, pixelsBrought, pixelAfter, placeAfter, bytesOf, moveBy, move, reading, readingInto, withWanted, withHeader, wholeReading}
 use Rattle.rules.specs.Decode.{decoderStores, decoderKeeps, decoderReadsRgba, decoding, writtenOver, restOf}
-use Rattle.rules.specs.Document.{documentReading, namesFilled, filledAfter, filledOn, chunkDue, filledFrom, filledHeader, indexesFilled}
+use Rattle.rules.specs.Trace.{visitsOn, chunkDue, visits, headerTrace, trace}
+use Rattle.rules.specs.Document.{documentReading, namesFilled, filledAfter, filledIn, indexesFilled}
 use Rattle.rules.specs.Encode.{fitsDiff, fitsLuma, diffBytes, lumaBytes, colourBytes, startPen, runEnded, slotHolds, differingBytes, pixelChunks, penAfter, chunksFrom, pixelFrom, pixelsFrom, streamOf, encodingInto, withSpace, withCount, withDimensions, encoding}
 use Rattle.rules.specs.Step.{State, wellFormed, Started, started, notStarted, startWanted, startHeader, starting, stepBy, step, Ran, going, ended, running}
 use Rattle.rules.specs.Record.{pixelsBytes, recordBytes, recording, recordedOver, withNumber, readEnd, readSlots, readPositions, readWanted, readRecord}
@@ -111,7 +112,7 @@ readBoth m wanted room bytes documentBytes =
 
 -- whether a case holds of the definitions
 pub holds : Case → Bool
-unfolding sameTest afterRun resumed checkpointed begun slotOf sevenBitsOf sevenBits groupBelow readMore readNumber headerBytes headerFrom afterColorSpace afterChannels headerOf chunkFrom chunkAt colourOf timesOf sizeOf sameBytes repeated closing startPlace pixelsBrought pixelAfter placeAfter bytesOf moveBy move reading readingInto withWanted withHeader wholeReading decoderStores decoderKeeps decoderReadsRgba fitsDiff fitsLuma diffBytes lumaBytes colourBytes startPen runEnded slotHolds differingBytes pixelChunks penAfter chunksFrom pixelFrom pixelsFrom streamOf encodingInto withSpace withCount withDimensions encoding wellFormed startWanted startHeader starting stepBy step running pixelsBytes recordBytes recording recordedOver restOf withNumber readEnd readSlots readPositions readWanted readRecord strictClosed strictClosing strictCounted strictBy strictMove strictFrom strictHeader strict namesFilled filledAfter filledOn chunkDue filledFrom filledHeader indexesFilled
+unfolding sameTest afterRun resumed checkpointed begun slotOf sevenBitsOf sevenBits groupBelow readMore readNumber headerBytes headerFrom afterColorSpace afterChannels headerOf chunkFrom chunkAt colourOf timesOf sizeOf sameBytes repeated closing startPlace pixelsBrought pixelAfter placeAfter bytesOf moveBy move reading readingInto withWanted withHeader wholeReading decoderStores decoderKeeps decoderReadsRgba fitsDiff fitsLuma diffBytes lumaBytes colourBytes startPen runEnded slotHolds differingBytes pixelChunks penAfter chunksFrom pixelFrom pixelsFrom streamOf encodingInto withSpace withCount withDimensions encoding wellFormed startWanted startHeader starting stepBy step running pixelsBytes recordBytes recording recordedOver restOf withNumber readEnd readSlots readPositions readWanted readRecord strictClosed strictClosing strictCounted strictBy strictMove strictFrom strictHeader strict visitsOn chunkDue visits headerTrace trace namesFilled filledAfter filledIn indexesFilled
 holds (encodes width height channels picture chunks) =
     let m = message width height channels chunks in
     sameBytes (encoding picture width height 0 1000000 .bytes) m
@@ -137,7 +138,7 @@ holds (decodes width height channels wanted body figures bytes) =
 holds (reads width height channels wanted chunks bytes documentBytes) =
     readBoth (message width height channels chunks) wanted (width * height * wanted) bytes documentBytes
 holds (fills width height channels chunks each) =
-    sameTest (indexesFilled (message width height channels chunks) (channelsNumber channels)) each
+    sameTest (indexesFilled (message width height channels chunks)) each
 holds (leaves width height channels wanted body rest) =
     let m = headerBytes (headerWith width height channels) ++ body in
     sameBytes (restOf m (decoding m wanted (width * height * wanted) .answer)) rest

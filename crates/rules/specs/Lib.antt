@@ -2,6 +2,7 @@
 pub mod Chunk
 pub mod Reading
 pub mod Decode
+pub mod Trace
 pub mod Document
 pub mod Encode
 pub mod Step

@@ -1,6 +1,6 @@
 -- The strict check: what a decode accepts, with no run past the image and nothing after the marker; it counts chunks and bytes.
-use mathlib.Core.Bool.{cond}
-use mathlib.Core.List.{List}
+use mathlib.Core.Bool.{Bool, true, cond, _&&_}
+use mathlib.Core.List.{List, [], _∷_}
 use Prim.Native.Nat.{ℕ, zero, suc, _+_, _-_}
 use lib.Dec.{ltb, leb, eqb}
 use lib.ListN.{length, drop}
@@ -14,6 +14,7 @@ use Rattle.header.specs.Header.{pixelCount, headerOf}
 use Rattle.rules.specs.Chunk.{Chunk, Found, cut, chunk, chunkAt, timesOf, sizeOf, INDEX, DIFF, LUMA, RUN, RGB, RGBA, Stuck}
 use Rattle.rules.specs.Reading.{Answer, closing}
 use Rattle.rules.specs.Decode.{decoderReadsRgba}
+use Rattle.rules.specs.Trace.{Visit, trace}
 
 -- the header, how many chunks and how many bytes in all; or a refusal
 pub data StrictAnswer : Type 0 where
@@ -85,3 +86,16 @@ strictHeader message (header-read.Ok header) =
 -- strict: header; each chunk; the end
 unfoldable pub strict : List ℕ → StrictAnswer
 strict message = strictHeader message (headerOf message)
+
+-- no run of these chunks is longer than the pixels left
+unfoldable pub runsFitIn : List Visit → Bool
+runsFitIn [] = true
+runsFitIn (v ∷ rest) = leb (timesOf (v .found)) (pixelCount (v .header) - v .place .pixel) && runsFitIn rest
+
+-- no run of a message is longer than the pixels left
+abbrev pub runsFit : List ℕ → Bool
+runsFit message = runsFitIn (trace message)
+
+-- how many chunks of a message the decoder reads
+abbrev pub chunkCount : List ℕ → ℕ
+chunkCount message = length (trace message)
