@@ -5,6 +5,7 @@ pub mod Held
 pub mod TakeOver
 pub mod Partly
 pub mod Workers
+pub mod Flushing
 pub mod Worked
 pub mod Written
 pub mod Inside

@@ -22,9 +22,9 @@ pub readable : {m : List ℕ} {w : ℕ} (s : State) → OnWay m w s → readReco
 readable s on = record-read-back s (on .typed) (on .well)
 
 -- the state of a history is on the uncut decode's way, and its output holds what it must
-record Lived (m : List ℕ) (w : ℕ) (s : State) (o b : List ℕ) : Type 0 where
-  on-way : OnWay m w s
-  holds : Held m w b o s
+pub record Lived (m : List ℕ) (w : ℕ) (s : State) (o b : List ℕ) : Type 0 where
+  pub on-way : OnWay m w s
+  pub holds : Held m w b o s
 
 lived-begun :
     (m : List ℕ) (w : ℕ) (s : State) (o : List ℕ) → length m < 2 ^ 64 → starting m w ≡ started s → Lived m w s o o
@@ -52,7 +52,7 @@ lived-taken-up m w s s′ o b o′ l agrees e =
       holds = record { same-length = refl; before = agrees ∙ l .holds .before; beyond = refl; short = λ few. refl };
     })
 
-lived : {m : List ℕ} {w : ℕ} {s : State} {o b : List ℕ} → Life m w s o b → Lived m w s o b
+pub lived : {m : List ℕ} {w : ℕ} {s : State} {o b : List ℕ} → Life m w s o b → Lived m w s o b
 lived {m} {w} (begun {s} o small e) = lived-begun m w s o small e
 lived {m} {w} (stepped {s} {s′} {o} {b} {bytes} life e) = lived-stepped m w s s′ o b bytes (lived life) e
 lived {m} {w} (taken-up {s} {s′} {o} {b} life o′ agrees e) = lived-taken-up m w s s′ o b o′ (lived life) agrees e

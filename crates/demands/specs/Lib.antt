@@ -3,3 +3,4 @@ pub mod TakeOver
 pub mod Workers
 pub mod Document
 pub mod Strict
+pub mod Flushing
