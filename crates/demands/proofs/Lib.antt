@@ -11,3 +11,6 @@ pub mod Written
 pub mod Inside
 pub mod Document
 pub mod Strict
+pub mod PenAndPlace
+pub mod PixelsRead
+pub mod ReadBack

@@ -4,3 +4,4 @@ pub mod Workers
 pub mod Document
 pub mod Strict
 pub mod Flushing
+pub mod ReadBack

@@ -7,3 +7,6 @@ pub mod RecordLaws
 pub mod StepLaws
 pub mod StuckLaws
 pub mod TraceLaws
+pub mod EncodeLaws
+pub mod PenLaws
+pub mod PictureLaws

@@ -63,7 +63,7 @@ set-keeps P (x ∷ xs) (suc s) zero p d new old = old
 set-keeps P (x ∷ xs) (suc s) (suc i) p d new old = set-keeps P xs s i p d new old
 
 -- a pixel of four bytes stored in a slot
-stored-shaped :
+pub stored-shaped :
     (b : Bool) (slots : List Pixel) (current p : Pixel) (i : ℕ) → Shaped slots current → length (p .rgba) ≡ 4
     → Shaped (cond b (set slots i p) slots) p
 stored-shaped true slots current p i shaped four =

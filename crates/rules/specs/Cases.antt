@@ -17,7 +17,7 @@ use Rattle.rules.specs.Reading.{Reading, marker, sameBytes, repeated, cl
 use Rattle.rules.specs.Decode.{decoderStores, decoderKeeps, decoderReadsRgba, decoding, writtenOver, restOf}
 use Rattle.rules.specs.Trace.{visitsOn, chunkDue, visits, headerTrace, trace}
 use Rattle.rules.specs.Document.{documentReading, namesFilled, filledAfter, filledIn, indexesFilled}
-use Rattle.rules.specs.Encode.{fitsDiff, fitsLuma, diffBytes, lumaBytes, colourBytes, startPen, runEnded, slotHolds, differingBytes, pixelChunks, penAfter, chunksFrom, pixelFrom, pixelsFrom, streamOf, encodingInto, withSpace, withCount, withDimensions, encoding}
+use Rattle.rules.specs.Encode.{fitsDiff, fitsLuma, diffChunk, lumaChunk, colourChunk, startPen, runEnded, slotHolds, differingChunk, pixelChunks, penAfter, chunksFrom, chunkBytes, chunksBytes, pixelFrom, pixelsFrom, chunksOf, streamOf, encodingInto, withSpace, withCount, withDimensions, encoding}
 use Rattle.rules.specs.Step.{State, wellFormed, Started, started, notStarted, startWanted, startHeader, starting, stepBy, step, Ran, going, ended, running}
 use Rattle.rules.specs.Record.{pixelsBytes, recordBytes, recording, recordedOver, withNumber, readEnd, readSlots, readPositions, readWanted, readRecord}
 use Rattle.rules.specs.Strict.{strictClosed, strictClosing, strictCounted, strictBy, strictMove, strictFrom, strictHeader, strict}
@@ -112,7 +112,7 @@ readBoth m wanted room bytes documentBytes =
 
 -- whether a case holds of the definitions
 pub holds : Case → Bool
-unfolding sameTest afterRun resumed checkpointed begun slotOf sevenBitsOf sevenBits groupBelow readMore readNumber headerBytes headerFrom afterColorSpace afterChannels headerOf chunkFrom chunkAt colourOf timesOf sizeOf sameBytes repeated closing startPlace pixelsBrought pixelAfter placeAfter bytesOf moveBy move reading readingInto withWanted withHeader wholeReading decoderStores decoderKeeps decoderReadsRgba fitsDiff fitsLuma diffBytes lumaBytes colourBytes startPen runEnded slotHolds differingBytes pixelChunks penAfter chunksFrom pixelFrom pixelsFrom streamOf encodingInto withSpace withCount withDimensions encoding wellFormed startWanted startHeader starting stepBy step running pixelsBytes recordBytes recording recordedOver restOf withNumber readEnd readSlots readPositions readWanted readRecord strictClosed strictClosing strictCounted strictBy strictMove strictFrom strictHeader strict visitsOn chunkDue visits headerTrace trace namesFilled filledAfter filledIn indexesFilled
+unfolding sameTest afterRun resumed checkpointed begun slotOf sevenBitsOf sevenBits groupBelow readMore readNumber headerBytes headerFrom afterColorSpace afterChannels headerOf chunkFrom chunkAt colourOf timesOf sizeOf sameBytes repeated closing startPlace pixelsBrought pixelAfter placeAfter bytesOf moveBy move reading readingInto withWanted withHeader wholeReading decoderStores decoderKeeps decoderReadsRgba fitsDiff fitsLuma diffChunk lumaChunk colourChunk startPen runEnded slotHolds differingChunk pixelChunks penAfter chunksFrom chunkBytes chunksBytes pixelFrom pixelsFrom chunksOf streamOf encodingInto withSpace withCount withDimensions encoding wellFormed startWanted startHeader starting stepBy step running pixelsBytes recordBytes recording recordedOver restOf withNumber readEnd readSlots readPositions readWanted readRecord strictClosed strictClosing strictCounted strictBy strictMove strictFrom strictHeader strict namesFilled filledAfter chunkDue indexesFilled visitsOn visits headerTrace trace filledIn
 holds (encodes width height channels picture chunks) =
     let m = message width height channels chunks in
     sameBytes (encoding picture width height 0 1000000 .bytes) m

@@ -1,7 +1,7 @@
--- The encoder's rules: the stream of a picture, and the order of the refusals.
+-- The encoder's rules: the chunks that it chooses, how they are written, the stream of a picture, and the order of the refusals.
 use mathlib.Core.Bool.{Bool, true, false, cond, _&&_, _||_}
 use mathlib.Core.List.{List, [], _∷_, _++_}
-use Prim.Native.Nat.{ℕ, zero, suc, _+_, _-_, _*_, _/_, _%_}
+use Prim.Native.Nat.{ℕ, zero, suc, _+_, _-_, _*_, _/_, _%_, _<_}
 use lib.Dec.{ltb, eqb}
 use lib.ListN.{length, getD, drop, set, replicate}
 use Rattle.pixel.specs.declared.Pixel.{Pixel}
@@ -17,6 +17,7 @@ use Rattle.header.specs.declared.Header.{Header}
 use Rattle.header.specs.declared.HeaderRead.{HeaderRead}
 use Rattle.header.specs.declared.HeaderRead.the-variants as header-read
 use Rattle.header.specs.Header.{pixelCount, headerFrom, headerBytes, encodedRoom, withChannels, withColorSpace, defaultHeader}
+use Rattle.rules.specs.Chunk.{Chunk, INDEX, DIFF, LUMA, RUN, RGB, RGBA, Stuck}
 use Rattle.rules.specs.Reading.{marker}
 
 -- DIFF holds -2..1 in each colour
@@ -29,27 +30,24 @@ fitsLuma r g b =
     within 32 31 (signedOf g)
     && (within 8 7 (signedOf (wrappedDifference r g)) && within 8 7 (signedOf (wrappedDifference b g)))
 
--- three 2-bit differences, r high, each stored plus 2
-unfoldable pub diffBytes : ℕ → ℕ → ℕ → List ℕ
-diffBytes r g b = (0x40 + wrappedSum r 2 * 16 + wrappedSum g 2 * 4 + wrappedSum b 2) ∷ []
+-- three differences, each stored plus 2
+unfoldable pub diffChunk : ℕ → ℕ → ℕ → Chunk
+diffChunk r g b = DIFF (wrappedSum r 2) (wrappedSum g 2) (wrappedSum b 2)
 
--- the green difference plus 32; red less green plus 8 (high four bits), blue less green plus 8 (low four)
-unfoldable pub lumaBytes : ℕ → ℕ → ℕ → List ℕ
-lumaBytes r g b =
-    (0x80 + wrappedSum g 32)
-    ∷ (wrappedSum (wrappedDifference r g) 8 * 16 + wrappedSum (wrappedDifference b g) 8)
-    ∷ []
+-- the green difference plus 32; red less green plus 8, blue less green plus 8
+unfoldable pub lumaChunk : ℕ → ℕ → ℕ → Chunk
+lumaChunk r g b = LUMA (wrappedSum g 32) (wrappedSum (wrappedDifference r g) 8) (wrappedSum (wrappedDifference b g) 8)
 
 -- if alpha is unchanged, the first fitting of DIFF, LUMA, RGB; else RGBA
-unfoldable pub colourBytes : Pixel → Pixel → List ℕ
-colourBytes previous p =
+unfoldable pub colourChunk : Pixel → Pixel → Chunk
+colourChunk previous p =
     let r = wrappedDifference (red p) (red previous) in
     let g = wrappedDifference (green p) (green previous) in
     let b = wrappedDifference (blue p) (blue previous) in
     cond (eqb (alpha p) (alpha previous))
-    (cond (fitsDiff r g b) (diffBytes r g b)
-    (cond (fitsLuma r g b) (lumaBytes r g b) (0xfe ∷ red p ∷ green p ∷ blue p ∷ [])))
-    (0xff ∷ red p ∷ green p ∷ blue p ∷ alpha p ∷ [])
+    (cond (fitsDiff r g b) (diffChunk r g b)
+    (cond (fitsLuma r g b) (lumaChunk r g b) (RGB (red p) (green p) (blue p))))
+    (RGBA (red p) (green p) (blue p) (alpha p))
 
 -- what the encoder remembers; `differed`: some earlier pixel differed from its predecessor, the first from the start pixel
 pub record Pen : Type 0 where
@@ -62,45 +60,42 @@ pub record Pen : Type 0 where
 unfoldable pub startPen : Pen
 startPen = record { slots = replicate 64 clearPixel; previous = startPixel; run = 0; differed = false }
 
--- RUN, low six bits plus 1 times
-abbrev pub runByte : ℕ → ℕ
-runByte run = 0xc0 + (run - 1)
-
 -- when another pixel ends a run: a run of 1 is INDEX of the repeated pixel's slot if some earlier pixel differed; otherwise RUN
-unfoldable pub runEnded : Pen → List ℕ
+unfoldable pub runEnded : Pen → List Chunk
 runEnded pen =
     cond (eqb (pen .run) 0) []
-    (cond (eqb (pen .run) 1 && pen .differed) (slotOf (pen .previous) ∷ []) (runByte (pen .run) ∷ []))
+    (cond (eqb (pen .run) 1 && pen .differed) (INDEX (slotOf (pen .previous)) ∷ []) (RUN (pen .run) ∷ []))
 
 -- whether a pixel's slot holds it
 unfoldable pub slotHolds : Pen → Pixel → Bool
 slotHolds pen p = samePixel (getD (pen .slots) (slotOf p) clearPixel) p
 
 -- a differing pixel: INDEX if its slot holds it, else its colour
-unfoldable pub differingBytes : Pen → Pixel → List ℕ
-differingBytes pen p = cond (slotHolds pen p) (slotOf p ∷ []) (colourBytes (pen .previous) p)
+unfoldable pub differingChunk : Pen → Pixel → Chunk
+differingChunk pen p = cond (slotHolds pen p) (INDEX (slotOf p)) (colourChunk (pen .previous) p)
 
 -- a run that one more pixel makes is written at 62 or at the last pixel
 abbrev pub runWritten : Pen → Bool → Bool
 runWritten pen last = eqb (pen .run + 1) 62 || last
 
--- what is written for a pixel, which may be the last: one equal to its predecessor lengthens the run
-unfoldable pub pixelChunks : Pen → Bool → Pixel → List ℕ
+-- the chunks for a pixel, which may be the last: one equal to its predecessor lengthens the run
+unfoldable pub pixelChunks : Pen → Bool → Pixel → List Chunk
 pixelChunks pen last p =
-    cond (samePixel p (pen .previous)) (cond (runWritten pen last) (runByte (pen .run + 1) ∷ []) [])
-    (runEnded pen ++ differingBytes pen p)
+    cond (samePixel p (pen .previous)) (cond (runWritten pen last) (RUN (pen .run + 1) ∷ []) [])
+    (runEnded pen ++ (differingChunk pen p ∷ []))
 
--- what the encoder remembers then; a differing pixel is in its slot
+-- another run, all else kept
+abbrev pub withRun : Pen → ℕ → Pen
+withRun pen run = record { slots = pen .slots; previous = pen .previous; run = run; differed = pen .differed }
+
+-- a differing pixel is in its slot, and ends the run
+abbrev pub withPixel : Pen → Pixel → Pen
+withPixel pen p = record { slots = set (pen .slots) (slotOf p) p; previous = p; run = 0; differed = true }
+
+-- what the encoder remembers after a pixel, which may be the last
 unfoldable pub penAfter : Pen → Bool → Pixel → Pen
 penAfter pen last p =
-    cond (samePixel p (pen .previous))
-    (record {
-      slots = pen .slots;
-      previous = pen .previous;
-      run = cond (runWritten pen last) 0 (pen .run + 1);
-      differed = pen .differed;
-    })
-    (record { slots = set (pen .slots) (slotOf p) p; previous = p; run = 0; differed = true })
+    cond (samePixel p (pen .previous)) (withRun pen (cond (runWritten pen last) 0 (pen .run + 1))) (withPixel pen p)
 
 -- whether no pixel follows
 abbrev pub isLast : List Pixel → Bool
@@ -108,9 +103,24 @@ isLast [] = true
 isLast (p ∷ rest) = false
 
 -- the chunks of the pixels still to come
-unfoldable pub chunksFrom : Pen → List Pixel → List ℕ
+unfoldable pub chunksFrom : Pen → List Pixel → List Chunk
 chunksFrom pen [] = []
 chunksFrom pen (p ∷ rest) = pixelChunks pen (isLast rest) p ++ chunksFrom (penAfter pen (isLast rest) p) rest
+
+-- how a chunk is written, by the chunk table; an ff that is not consumed takes no byte, and is never chosen
+unfoldable pub chunkBytes : Chunk → List ℕ
+chunkBytes (INDEX slot) = slot ∷ []
+chunkBytes (DIFF r g b) = (0x40 + r * 16 + g * 4 + b) ∷ []
+chunkBytes (LUMA g r b) = (0x80 + g) ∷ (r * 16 + b) ∷ []
+chunkBytes (RUN times) = (0xc0 + (times - 1)) ∷ []
+chunkBytes (RGB r g b) = 0xfe ∷ r ∷ g ∷ b ∷ []
+chunkBytes (RGBA r g b a) = 0xff ∷ r ∷ g ∷ b ∷ a ∷ []
+chunkBytes Stuck = []
+
+-- chunks one after another
+unfoldable pub chunksBytes : List Chunk → List ℕ
+chunksBytes [] = []
+chunksBytes (k ∷ ks) = chunkBytes k ++ chunksBytes ks
 
 -- the pixel that some bytes start with; with three channels its alpha is 255
 unfoldable pub pixelFrom : ℕ → List ℕ → Pixel
@@ -122,11 +132,17 @@ unfoldable pub pixelsFrom : ℕ → ℕ → List ℕ → List Pixel
 pixelsFrom zero channels bytes = []
 pixelsFrom (suc n) channels bytes = pixelFrom channels bytes ∷ pixelsFrom n channels (drop channels bytes)
 
+-- every number of a picture is a byte
+abbrev pub AllBytes : List ℕ → Type 0
+AllBytes picture = (i : ℕ) → i < length picture → getD picture i 0 < 256
+
+-- the chunks of a picture
+unfoldable pub chunksOf : Header → List ℕ → List Chunk
+chunksOf header bytes = chunksFrom startPen (pixelsFrom (pixelCount header) (channelsNumber (header .channels)) bytes)
+
 -- the stream of a picture: header, chunks, marker
 unfoldable pub streamOf : Header → List ℕ → List ℕ
-streamOf header bytes =
-    headerBytes header
-    ++ (chunksFrom startPen (pixelsFrom (pixelCount header) (channelsNumber (header .channels)) bytes) ++ marker)
+streamOf header bytes = headerBytes header ++ (chunksBytes (chunksOf header bytes) ++ marker)
 
 -- how many bytes were written, or a refusal
 pub data EncodeAnswer : Type 0 where
