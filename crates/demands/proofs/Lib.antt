@@ -14,3 +14,7 @@ pub mod Strict
 pub mod PenAndPlace
 pub mod PixelsRead
 pub mod ReadBack
+pub mod Traced
+pub mod Filled
+pub mod Wrote
+pub mod Streams

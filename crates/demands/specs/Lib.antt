@@ -5,3 +5,4 @@ pub mod Document
 pub mod Strict
 pub mod Flushing
 pub mod ReadBack
+pub mod Streams
