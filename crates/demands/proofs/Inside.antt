@@ -1,27 +1,32 @@
 -- A worker that stops inside a step, at any moment: the checkpoint that it went on from may be taken up on what it left.
 -- Assumes nothing.
-use mathlib.Core.Path.{_≡_, refl, sym, _∙_, ap}
+use mathlib.Core.Path.{_≡_, sym, _∙_, ap}
 use mathlib.Core.List.{List}
-use Prim.Native.Nat.{ℕ, suc, _+_}
-use native.Mathlib.Nat.{add-comm}
-use lib.ListN.{length, take}
-use Rattle.rules.specs.Step.{State, more, step, steppedOver, going, runOn, running}
+use Prim.Native.Nat.{ℕ, _+_}
+use lib.ListN.{take}
+use Rattle.rules.specs.Step.{State, steppedOver, going, runOn, running}
 use Rattle.demands.specs.TakeOver.{bytesBefore, Life, taken-up, runningOn, outputOf}
-use Rattle.demands.specs.Workers.{Partly}
+use Rattle.demands.specs.Inside.{StoppedInside}
 use Rattle.demands.proofs.Steps.{run-adds, run-keeps-before}
 use Rattle.demands.proofs.Partly.{partly-take}
 use Rattle.demands.proofs.TakeOver.{reached-readable}
 
-pub left-inside :
-    {m : List ℕ} {w : ℕ} {s : State} {o b : List ℕ} → Life m w s o b → (n : ℕ) (t t′ : State) (o₁ bytes : List ℕ)
-    → running m n s o ≡ going t o₁ → step t m (length o₁) ≡ more t′ bytes
-    → (o′ : List ℕ) → Partly o₁ (steppedOver t bytes o₁) o′ → Life m w s o′ o′
-unfolding running
-left-inside {m} {w} {s} {o} {b} life n t t′ o₁ bytes ran on o′ partly =
-    let before : take (bytesBefore s) o₁ ≡ take (bytesBefore s) o =
-    ap (λ r. take (bytesBefore s) (outputOf r)) (sym ran) ∙ run-keeps-before m n s o in
-    let one : running m 1 t o₁ ≡ going t′ (steppedOver t bytes o₁) = ap (runOn (running m 0) t o₁) on in
-    let next : running m (n + 1) s o ≡ going t′ (steppedOver t bytes o₁) = run-adds m n 1 s o ∙ ap (runningOn m 1) ran ∙ one in
-    let after : take (bytesBefore s) (steppedOver t bytes o₁) ≡ take (bytesBefore s) o =
-    ap (λ r. take (bytesBefore s) (outputOf r)) (sym next) ∙ run-keeps-before m (n + 1) s o in
-    taken-up life o′ (partly-take o₁ (steppedOver t bytes o₁) o′ partly (bytesBefore s) (take (bytesBefore s) o) before after) (reached-readable life)
+module _ {m : List ℕ} {s : State} {o o′ : List ℕ} (stop : StoppedInside m s o o′) where
+  -- the step that was begun, done
+  whole-step : running m (stop .steps + 1) s o ≡ going (stop .next) (steppedOver (stop .reached) (stop .bytes) (stop .left))
+  unfolding running
+  whole-step =
+      run-adds m (stop .steps) 1 s o
+      ∙ ap (runningOn m 1) (stop .ran)
+      ∙ ap (runOn (running m 0) (stop .reached) (stop .left)) (stop .begun)
+
+  -- what stood before the checkpoint's pixel stands there
+  pub inside-keeps-before : take (bytesBefore s) o′ ≡ take (bytesBefore s) o
+  inside-keeps-before =
+      partly-take (stop .left) (steppedOver (stop .reached) (stop .bytes) (stop .left)) o′ (stop .partly) (bytesBefore s)
+      (take (bytesBefore s) o)
+      (ap (λ r. take (bytesBefore s) (outputOf r)) (sym (stop .ran)) ∙ run-keeps-before m (stop .steps) s o)
+      (ap (λ r. take (bytesBefore s) (outputOf r)) (sym whole-step) ∙ run-keeps-before m (stop .steps + 1) s o)
+
+  pub left-inside : {w : ℕ} {b : List ℕ} → Life m w s o b → Life m w s o′ o′
+  left-inside life = taken-up life o′ inside-keeps-before (reached-readable life)

@@ -1,6 +1,7 @@
 -- The demands as definitions: what the theorems of proofs/ say.
 pub mod TakeOver
 pub mod Workers
+pub mod Inside
 pub mod Document
 pub mod Strict
 pub mod Flushing

@@ -1,0 +1,147 @@
+-- Demand 3 for hosts, proved: a host's history is one of `demands`, so it ends as pivotshade_decode.
+-- Assumes nothing.
+use mathlib.Core.Path.{_≡_, refl, sym, _∙_, ap}
+use mathlib.Core.List.{List}
+use Prim.Native.Nat.{ℕ, _^_, _≤_, _<_}
+use native.Mathlib.Omega.{arith}
+use borrow.Author.Tests.{le-ltb}
+use lib.ListN.{length, take, length-take}
+use Rattle.pixel.specs.declared.error.Error.{Error}
+use Rattle.pixel.specs.declared.error.Error.the-variants.{UnexpectedBufferEnd, InvalidChannels, InvalidColorSpace, InvalidMagic, InvalidImageDimensions, InvalidImageLength, OutputBufferTooSmall, InvalidPadding, BadState, RunPastImage, BytesAfterMarker}
+use Rattle.pixel.specs.Refusal.{numberOf}
+use Rattle.header.proofs.Laws.{is-true}
+use Rattle.rules.specs.Reading.{Answer, done, refused}
+use Rattle.rules.specs.Decode.{decoding, writtenOver}
+use Rattle.rules.specs.Figures.{answerFigures, recordFigures}
+use Rattle.rules.specs.Step.{State, wellFormed, Started, started, notStarted, starting, Ran, going, ended, running}
+use Rattle.rules.specs.Record.{Recorded, recorded, notRecorded, recording, recordedOver, recordBytes, readRecord}
+use Rattle.rules.proofs.RecordLaws.{record-length}
+use Rattle.demands.specs.TakeOver.{Life, begun, taken-up, stepsLeft}
+use Rattle.demands.specs.Inside.{StoppedInside}
+use Rattle.demands.proofs.TakeOver.{reached-readable, reached-well-formed, enough-steps, run-lives, run-ends-as-uncut}
+use Rattle.demands.proofs.Inside.{inside-keeps-before}
+use Rattle.demands.proofs.Written.{written-record}
+use Rattle.decode.proofs.Whole.{refused-start}
+use Rattle.qoi.specs.Hosted.{startedFigures, startedOver, moreFigures, ranFigures, ranOut, ranNext, hostFigures, hostOut, hostNext}
+use Rattle.promises.specs.Hosts.{says, returned, recordRoom, Host, starts, runs, takes-over, EndsAsDecode, TakesOver, Starts}
+
+-- a refusal's number is neither 0 nor 256
+number-small : (e : Error) → (1 ≤ numberOf e) × (numberOf e ≤ 11)
+number-small UnexpectedBufferEnd = (omega arith, omega arith)
+number-small (InvalidChannels channels) = (omega arith, omega arith)
+number-small (InvalidColorSpace byte) = (omega arith, omega arith)
+number-small (InvalidMagic magic) = (omega arith, omega arith)
+number-small (InvalidImageDimensions width height) = (omega arith, omega arith)
+number-small (InvalidImageLength size width height) = (omega arith, omega arith)
+number-small (OutputBufferTooSmall size required) = (omega arith, omega arith)
+number-small InvalidPadding = (omega arith, omega arith)
+number-small BadState = (omega arith, omega arith)
+number-small RunPastImage = (omega arith, omega arith)
+number-small BytesAfterMarker = (omega arith, omega arith)
+
+-- the record in a host's hands is of a history of demand 3
+record Lives (m : List ℕ) (w : ℕ) (r o b : List ℕ) : Type 0 where
+  state : State
+  reads : readRecord r ≡ started state
+  fits : length r ≤ recordRoom
+  life : Life m w state o b
+
+module _ {m : List ℕ} {w : ℕ} {o b : List ℕ} (s : State) (life : Life m w s o b) where
+  -- a record of it has at most 290 bytes
+  short : length (recordBytes s) ≤ recordRoom
+  short = let well = reached-well-formed life in record-length s (well .1) (well .0) .1
+
+  -- so it fits a part of 290 bytes
+  written : (part : List ℕ) → recordRoom ≤ length part → recording s (length part) ≡ recorded (length (recordBytes s))
+  unfolding recording
+  written part roomy =
+      rw (is-true (wellFormed s) (reached-well-formed life .0), le-ltb (length part) (length (recordBytes s)) (omega (arith, short)))
+
+  -- and is read back as the state that it was written of
+  kept : (part : List ℕ) (n : ℕ) → recording s (length part) ≡ recorded n → Lives m w (take n (recordedOver s part)) o b
+  kept part n is =
+      rw (written-record s part n is) (record { state = s; reads = reached-readable life; fits = short; life = life })
+
+lives-starts :
+    (m : List ℕ) (w : ℕ) (o part : List ℕ) (n : ℕ) → length m < 2 ^ 64 → (v : Started) → starting m w ≡ v
+    → startedFigures v part ≡ says 0 n → Lives m w (take n (startedOver v part)) o o
+lives-starts m w o part n small (notStarted e) is said = let z : numberOf e ≡ 0 = cc in absurd (omega (arith, number-small e .0))
+lives-starts m w o part n small (started s) is said = go (recording s (length part)) refl said
+  where
+    go : (v : Recorded) → recording s (length part) ≡ v → recordFigures v ≡ says 0 n → Lives m w (take n (recordedOver s part)) o o
+    go (recorded k) e said = let same : k ≡ n = cc in kept s (begun o small is) part n (e ∙ ap recorded same)
+    go (notRecorded x) e said = let z : numberOf x ≡ 0 = cc in absurd (omega (arith, number-small x .0))
+
+module _ {m : List ℕ} {w : ℕ} {r o b : List ℕ} (l : Lives m w r o b) (steps : ℕ) (next : List ℕ) where
+  lives-runs :
+      (n : ℕ) → hostFigures m steps o next (readRecord r) ≡ says 256 n
+      → Lives m w (take n (hostNext m steps o next (readRecord r))) (hostOut m steps o (readRecord r)) b
+  lives-runs n said = rw (l .reads) (go (running m steps (l .state) o) refl (rw (l .reads) at said))
+    where
+      on :
+          (s′ : State) (o′ : List ℕ) → Life m w s′ o′ b → (v : Recorded) → recording s′ (length next) ≡ v → moreFigures v ≡ says 256 n
+          → Lives m w (take n (recordedOver s′ next)) o′ b
+      on s′ o′ life (recorded k) e told = let same : k ≡ n = cc in kept s′ life next n (e ∙ ap recorded same)
+      on s′ o′ life (notRecorded x) e told = let z : numberOf x ≡ 256 = cc in absurd (omega (arith, number-small x .1))
+
+      go : (v : Ran) → running m steps (l .state) o ≡ v → ranFigures v next ≡ says 256 n → Lives m w (take n (ranNext v next)) (ranOut v) b
+      go (going s′ o′) e told = on s′ o′ (run-lives steps (l .life) s′ o′ e) (recording s′ (length next)) refl told
+      go (ended (done size used) last left) e told = let z : _≡_ {A = ℕ} 0 256 = cc in absurd (omega arith)
+      go (ended (refused x) last left) e told = let z : numberOf x ≡ 256 = cc in absurd (omega (arith, number-small x .1))
+
+  ends-so :
+      recordRoom ≤ length next → (returned (hostFigures m steps o next (readRecord r)) ≡ 256 → ⊥)
+      → EndsAsDecode m w b next (hostFigures m steps o next (readRecord r)) (hostOut m steps o (readRecord r))
+      (hostNext m steps o next (readRecord r))
+  ends-so roomy not-more = rw (l .reads) (go (running m steps (l .state) o) refl (rw (l .reads) at not-more))
+    where
+      go :
+          (v : Ran) → running m steps (l .state) o ≡ v → (returned (ranFigures v next) ≡ 256 → ⊥)
+          → EndsAsDecode m w b next (ranFigures v next) (ranOut v) (ranNext v next)
+      go (going s′ o′) e never = absurd (never (rw (written s′ (run-lives steps (l .life) s′ o′ e) next roomy)))
+      go (ended answer last left) e never =
+          let uncut = run-ends-as-uncut (l .life) steps answer last left e in
+          let is : ended answer last left ≡ ended (decoding m w (length b) .answer) (uncut .0) (writtenOver (decoding m w (length b) .bytes) b) = sym e ∙ uncut .1 in
+          let same : answer ≡ decoding m w (length b) .answer = cc in
+          let out : left ≡ writtenOver (decoding m w (length b) .bytes) b = cc in
+          record { figures-are = ap answerFigures same; output-is = out; next-stays = refl }
+
+  ends-soon : stepsLeft (l .state) ≤ steps → returned (hostFigures m steps o next (readRecord r)) ≡ 256 → ⊥
+  ends-soon enough = rw (l .reads, enough-steps (l .life) steps enough .1) (other (decoding m w (length b) .answer))
+    where
+      other : (a : Answer) → returned (answerFigures a) ≡ 256 → ⊥
+      other (done size used) e = omega arith
+      other (refused x) e = omega (arith, number-small x .1)
+
+lives : {m : List ℕ} {w : ℕ} {r o b : List ℕ} → Host m w r o b → Lives m w r o b
+lives {m} {w} (starts o part n small said) = lives-starts m w o part n small (starting m w) refl said
+lives (runs host steps next n said) = lives-runs (lives host) steps next n said
+lives {m} {w} (takes-over {r} {o} {b} host s is o′ agrees) =
+    let l = lives host in
+    let same : l .state ≡ s = cc (l .reads) in
+    let life = rw same at (l .life) in
+    record { state = s; reads = is; fits = l .fits; life = taken-up life o′ agrees (reached-readable life) }
+
+-- whatever a host did, its record is read, and ends as pivotshade_decode within the pixels missing plus one steps
+pub host-takes-over : {m : List ℕ} {w : ℕ} {r o b : List ℕ} → Host m w r o b → TakesOver m w r o b
+host-takes-over host =
+    let l = lives host in
+    record { state = l .state; reads = l .reads; fits = l .fits; ends-as-decode = ends-so l; ends-within = ends-soon l }
+
+-- a start with 290 bytes for its record returns 0, or refuses as pivotshade_decode
+pub host-starts : (m : List ℕ) (w : ℕ) (part : List ℕ) → length m < 2 ^ 64 → recordRoom ≤ length part → Starts m w part
+host-starts m w part small roomy = record { refuses-as-decode = λ never o. go o (starting m w) refl never }
+  where
+    go :
+        (o : List ℕ) (v : Started) → starting m w ≡ v → (returned (startedFigures v part) ≡ 0 → ⊥)
+        → EndsAsDecode m w o part (startedFigures v part) o (startedOver v part)
+    go o (notStarted e) is never =
+        let same = refused-start m w (length o) e is in
+        record { figures-are = rw same; output-is = rw same; next-stays = refl }
+    go o (started s) is never = absurd (never (rw (written s (begun o small is) part roomy)))
+
+-- a host that is cut off inside a run, after some steps and with any bytes of the next one written, may hand the same record in on what it left
+pub host-left-inside :
+    {m : List ℕ} {w : ℕ} {r o b o′ : List ℕ} → Host m w r o b → (s : State) → readRecord r ≡ started s
+    → StoppedInside m s o o′ → Host m w r o′ o′
+host-left-inside {o′ = o′} host s is stop = takes-over host s is o′ (inside-keeps-before stop)

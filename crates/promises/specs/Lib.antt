@@ -1,0 +1,2 @@
+-- What the contracts of the public functions promise together: the statements.
+pub mod Hosts
