@@ -1,2 +1,4 @@
 -- What the contracts of the public functions promise together: the proofs.
 pub mod Hosts
+pub mod OneToOne
+pub mod Determined

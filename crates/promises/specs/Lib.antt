@@ -1,2 +1,3 @@
 -- What the contracts of the public functions promise together: the statements.
+pub mod Determined
 pub mod Hosts

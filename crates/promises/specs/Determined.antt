@@ -1,0 +1,21 @@
+-- A contract determines its function: any two results that it allows, on the same arguments, are equal.
+use mathlib.Core.List.{List}
+use mathlib.Core.Path.{_≡_}
+use Prim.Native.Nat.{ℕ}
+use contract.Lifetimes.{Lfts}
+use denote.Triple.Clauses.{Lasts, atExit}
+use borrow.Fn.Kinds.{PK, RK, Out, Dens, resT, endedOf}
+
+-- of a function with parameters ps and a result r, whose contract allows some results and some contents of lent parts at exit
+module _ {n : ℕ} (ps : List (PK n)) (r : RK n) where
+  -- what is returned, values of its type that are the same by `same`; and what each lent part holds at exit
+  abbrev pub DeterminedBy : ((κs : Lfts n) → resT r κs .Denot → resT r κs .Denot → Type 0) → Out n ps r → Type 0
+  DeterminedBy same allows =
+      (κs : Lfts n) (a : Dens κs ps) (z z′ : resT r κs .Denot) (e e′ : Lasts (endedOf n ps r) κs a)
+      → r .is .Ok κs z → r .is .Ok κs z′
+      → allows κs a z (atExit (endedOf n ps r) κs a e) → allows κs a z′ (atExit (endedOf n ps r) κs a e′)
+      → same κs z z′ × (e ≡ e′)
+
+  -- what is returned is equal
+  abbrev pub Determined : Out n ps r → Type 0
+  Determined allows = DeterminedBy (λ κs z z′. z ≡ z′) allows
