@@ -3,7 +3,8 @@
      1 input ended                           5 dimensions {width, height}             8 no marker after the last pixel
      2 channels {channels}                   6 image length {size, width, height}     9 bad state or record
      3 colour space {byte}                   7 output too small {size, required}     10 run past the image (strict)
-     4 magic {magic}                                                                 11 bytes after the marker (strict) */
+     4 magic {magic}                                                                 11 bytes after the marker (strict)
+   Parts that are lent to one call do not overlap, and each pointer is good for its length; figures has room for four numbers. */
 #ifndef PIVOTSHADE_H
 #define PIVOTSHADE_H
 
@@ -22,13 +23,29 @@ uint64_t pivotshade_header(const uint8_t *msg, size_t len, uint64_t figures[4]);
 uint64_t pivotshade_decode(const uint8_t *msg, size_t len, uint64_t wanted, uint8_t *out, size_t out_len, uint64_t figures[4]);
 
 /* Starts a decode that can be taken over, and writes its record (at most PIVOTSHADE_RECORD_MAX bytes): the record's length. After a refusal
-   record is as it was. */
+   record is as it was. 7 is the record's: with PIVOTSHADE_RECORD_MAX bytes it never comes. */
 #define PIVOTSHADE_RECORD_MAX 290
 uint64_t pivotshade_start(const uint8_t *msg, size_t len, uint64_t wanted, uint8_t *record, size_t record_len, uint64_t figures[4]);
 
-/* Takes up a record, on an output that holds before the record's pixel what it held when the record was written, and does at most so many
-   steps. 0: the decode ended, with decode's figures. PIVOTSHADE_MORE: there is more to do; next holds the next record, and its length is the
-   first figure. An end leaves next as it was. No byte of out before the record's pixel is written. */
+/* Takes up a record and does at most `steps` steps, a chunk each. 0: the decode ended, with decode's figures. PIVOTSHADE_MORE: there is more
+   to do; next holds the next record, and its length is the first figure. Else a refusal. An end leaves next as it was. No byte of out before
+   the record's pixel is written.
+
+   A host owes, and the call cannot see:
+   - the message that the record was started on, byte for byte;
+   - an output that holds, before the record's pixel, what it held when the record was written; from there on it may hold anything;
+   - parts that do not overlap: msg, record, out, next and figures are five different places. A record is not run into itself.
+
+   Whose refusal it is:
+   - 1: the record is cut short, or the message is. A call with 0 steps and PIVOTSHADE_RECORD_MAX bytes for next tests the record alone: it
+     returns PIVOTSHADE_MORE and the same record, or the record's refusal, and touches no output.
+   - 2, 3, 4, 5 and 9 are the record's.
+   - 7: figures are the length and what is required. With PIVOTSHADE_RECORD_MAX bytes for next it is always out's. For next the steps are
+     done and stand in out: the old record may be handed in again, on that output.
+   - 8 is the message's.
+
+   A host that keeps its output in a file writes there only the bytes that a run brought, from the record's pixel to the next record's, and
+   saves the next record after they are flushed. */
 #define PIVOTSHADE_MORE 256
 uint64_t pivotshade_run(const uint8_t *msg, size_t len, const uint8_t *record, size_t record_len, uint8_t *out, size_t out_len, uint64_t steps,
                         uint8_t *next, size_t next_len, uint64_t figures[4]);

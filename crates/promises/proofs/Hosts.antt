@@ -5,7 +5,7 @@ use mathlib.Core.List.{List}
 use Prim.Native.Nat.{ℕ, _^_, _≤_, _<_}
 use native.Mathlib.Omega.{arith}
 use borrow.Author.Tests.{le-ltb}
-use lib.ListN.{length, take, length-take}
+use lib.ListN.{length, take}
 use Rattle.pixel.specs.declared.error.Error.{Error}
 use Rattle.pixel.specs.declared.error.Error.the-variants.{UnexpectedBufferEnd, InvalidChannels, InvalidColorSpace, InvalidMagic, InvalidImageDimensions, InvalidImageLength, OutputBufferTooSmall, InvalidPadding, BadState, RunPastImage, BytesAfterMarker}
 use Rattle.pixel.specs.Refusal.{numberOf}
@@ -26,7 +26,7 @@ use Rattle.qoi.specs.Hosted.{startedFigures, startedOver, moreFigures, ranFigur
 use Rattle.promises.specs.Hosts.{says, returned, recordRoom, Host, starts, runs, takes-over, EndsAsDecode, TakesOver, Starts}
 
 -- a refusal's number is neither 0 nor 256
-number-small : (e : Error) → (1 ≤ numberOf e) × (numberOf e ≤ 11)
+pub number-small : (e : Error) → (1 ≤ numberOf e) × (numberOf e ≤ 11)
 number-small UnexpectedBufferEnd = (omega arith, omega arith)
 number-small (InvalidChannels channels) = (omega arith, omega arith)
 number-small (InvalidColorSpace byte) = (omega arith, omega arith)
@@ -122,11 +122,17 @@ lives {m} {w} (takes-over {r} {o} {b} host s is o′ agrees) =
     let life = rw same at (l .life) in
     record { state = s; reads = is; fits = l .fits; life = taken-up life o′ agrees (reached-readable life) }
 
+takes-over-so : {m : List ℕ} {w : ℕ} {r o b : List ℕ} → Lives m w r o b → TakesOver m w r o b
+takes-over-so l =
+    record { state = l .state; reads = l .reads; fits = l .fits; ends-as-decode = ends-so l; ends-within = ends-soon l }
+
 -- whatever a host did, its record is read, and ends as pivotshade_decode within the pixels missing plus one steps
 pub host-takes-over : {m : List ℕ} {w : ℕ} {r o b : List ℕ} → Host m w r o b → TakesOver m w r o b
-host-takes-over host =
-    let l = lives host in
-    record { state = l .state; reads = l .reads; fits = l .fits; ends-as-decode = ends-so l; ends-within = ends-soon l }
+host-takes-over host = takes-over-so (lives host)
+
+-- so does the record of every state that a history of demand 3 reaches
+pub life-takes-over : {m : List ℕ} {w : ℕ} {o b : List ℕ} (s : State) → Life m w s o b → TakesOver m w (recordBytes s) o b
+life-takes-over s life = takes-over-so (record { state = s; reads = reached-readable life; fits = short s life; life = life })
 
 -- a start with 290 bytes for its record returns 0, or refuses as pivotshade_decode
 pub host-starts : (m : List ℕ) (w : ℕ) (part : List ℕ) → length m < 2 ^ 64 → recordRoom ≤ length part → Starts m w part

@@ -1,4 +1,5 @@
 -- What the contracts of the public functions promise together: the proofs.
 pub mod Hosts
+pub mod Stores
 pub mod OneToOne
 pub mod Determined

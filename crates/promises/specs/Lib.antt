@@ -1,3 +1,4 @@
 -- What the contracts of the public functions promise together: the statements.
 pub mod Determined
 pub mod Hosts
+pub mod Stores

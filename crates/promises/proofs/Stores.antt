@@ -1,0 +1,51 @@
+-- The order of flushing for a host that has only the exported calls, proved: what it saves after a flush survives a crash.
+-- Assumes nothing.
+use mathlib.Core.Path.{_≡_, refl, _∙_, ap}
+use mathlib.Core.List.{List, List·Memᴰ}
+use Prim.Native.Nat.{ℕ}
+use native.Mathlib.Omega.{arith}
+use lib.ListN.{length, take}
+use Rattle.pixel.specs.Refusal.{numberOf}
+use Rattle.rules.specs.Reading.{done, refused}
+use Rattle.rules.specs.Step.{State, Ran, going, ended, running}
+use Rattle.rules.specs.Record.{Recorded, recorded, notRecorded, recording, recordBytes, readRecord}
+use Rattle.demands.specs.Flushing.{Torn, Stored}
+use Rattle.demands.proofs.Flushing.{stored-lives, crash-lives, checkpointed}
+use Rattle.demands.proofs.TakeOver.{reached-readable}
+use Rattle.demands.proofs.Written.{written-record}
+use Rattle.qoi.specs.Hosted.{moreFigures, ranFigures, ranOut, ranNext, hostFigures}
+use Rattle.promises.specs.Hosts.{says, TakesOver}
+use Rattle.promises.specs.Stores.{Checkpoint}
+use Rattle.promises.proofs.Hosts.{number-small, life-takes-over}
+
+module _ {m : List ℕ} {w : ℕ} {s f : State} {o b : List ℕ} {since : List (List ℕ)} {saved : List State}
+    (h : Stored m w s o b since f saved) where
+  -- run, flush, save: the next record is saved of a state that the flush has followed
+  pub host-checkpoint :
+      (steps : ℕ) (next : List ℕ) (n : ℕ) → hostFigures m steps o next (readRecord (recordBytes s)) ≡ says 256 n
+      → Checkpoint m w (recordBytes s) o b saved steps next n
+  host-checkpoint steps next n said =
+      let reads = reached-readable (stored-lives h) in
+      go (running m steps s o) refl (rw reads at said)
+    where
+      on :
+          (s′ : State) (o′ : List ℕ) → running m steps s o ≡ going s′ o′ → (v : Recorded) → recording s′ (length next) ≡ v
+          → moreFigures v ≡ says 256 n → Checkpoint m w (recordBytes s) o b saved steps next n
+      on s′ o′ e (recorded k) is told =
+          let reads = reached-readable (stored-lives h) in
+          let same : k ≡ n = cc in
+          record {
+            state = s′;
+            record-is = rw (reads, e) (written-record s′ next n (is ∙ ap recorded same));
+            history = rw (reads, e) (checkpointed steps h s′ o′ e);
+          }
+      on s′ o′ e (notRecorded x) is told = let z : numberOf x ≡ 256 = cc in absurd (omega (arith, number-small x .1))
+
+      go : (v : Ran) → running m steps s o ≡ v → ranFigures v next ≡ says 256 n → Checkpoint m w (recordBytes s) o b saved steps next n
+      go (going s′ o′) e told = on s′ o′ e (recording s′ (length next)) refl told
+      go (ended (done size used) last left) e told = let z : _≡_ {A = ℕ} 0 256 = cc in absurd (omega arith)
+      go (ended (refused x) last left) e told = let z : numberOf x ≡ 256 = cc in absurd (omega (arith, number-small x .1))
+
+  -- whatever a crash leaves, any record saved may be handed in on it, and ends as pivotshade_decode
+  pub host-after-crash : (t : State) → List·Memᴰ t saved → (o′ : List ℕ) → Torn o since saved o′ → TakesOver m w (recordBytes t) o′ o′
+  host-after-crash t is o′ torn = life-takes-over t (crash-lives h t is o′ torn)
