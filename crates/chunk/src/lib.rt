@@ -1,11 +1,10 @@
 // One chunk of a message: what its first bytes say, and the pixel that a chunk of colour makes of the one before it.
 ghost use mathlib.Core.Path.{_≡_};
-ghost use mathlib.Core.List.{[], _∷_};
+ghost use mathlib.Core.List.{[]};
 ghost use Rattle.pixel.specs.Colour.{alpha as alphaOf, clearPixel, withAlpha};
 ghost use Rattle.pixel.specs.Packed.{unpacked};
 ghost use Rattle.pixel.specs.Types.{channelsNumber};
 ghost use Rattle.rules.specs.Chunk.{chunkAt, colourOf, sizeOf, shifted as shiftedBy};
-ghost use Rattle.rules.specs.Reading.{sameBytes, marker};
 ghost use Rattle.rules.specs.Decode.{decoderReadsRgba};
 ghost use Rattle.chunk.specs.Found.{foundOf, chunkOf, endingAt};
 use pixel::consts::QOI_OP_DIFF;
@@ -13,6 +12,7 @@ use pixel::consts::QOI_OP_LUMA;
 use pixel::consts::QOI_OP_RGB;
 use pixel::consts::QOI_OP_RGBA;
 use pixel::consts::QOI_OP_RUN;
+use pixel::consts::QOI_PADDING;
 use pixel::consts::QOI_PADDING_SIZE;
 use pixel::packed;
 use pixel::types::Channels;
@@ -100,51 +100,11 @@ pub fn read_end(part: &[u8]) -> Ending
     if part.len() < QOI_PADDING_SIZE {
         return Ending::Cut;
     }
-    if is_marker(
-        part[0],
-        part[1],
-        part[2],
-        part[3],
-        part[4],
-        part[5],
-        part[6],
-        part[7],
-    ) {
+    if check::same(&part[..QOI_PADDING_SIZE], &QOI_PADDING) {
         Ending::Marker
     } else {
         Ending::Wrong
     }
-}
-
-// Seven 00 and one 01.
-fn is_marker(a: u8, b: u8, c: u8, d: u8, e: u8, f: u8, g: u8, h: u8) -> bool
-    ensures { λ r. ⌜ r ≡ sameBytes (a ∷ b ∷ c ∷ d ∷ e ∷ f ∷ g ∷ h ∷ []) marker ⌝ }
-{
-    if a != 0 {
-        return false;
-    }
-    if b != 0 {
-        return false;
-    }
-    if c != 0 {
-        return false;
-    }
-    if d != 0 {
-        return false;
-    }
-    if e != 0 {
-        return false;
-    }
-    if f != 0 {
-        return false;
-    }
-    if g != 0 {
-        return false;
-    }
-    if h != 1 {
-        return false;
-    }
-    true
 }
 
 // The alpha that a chunk of colour leaves.

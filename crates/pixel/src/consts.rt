@@ -1,8 +1,6 @@
 // The numbers of the format: opcodes, sizes, the marker and the limit on pixels.
 
-// First bytes: 00xxxxxx, 01xxxxxx, 10xxxxxx, 11xxxxxx, and the two whole ones.
-pub const QOI_OP_INDEX: u8 = 0x00;
-
+// The least first byte of each kind of chunk; those below DIFF's are INDEX.
 pub const QOI_OP_DIFF: u8 = 0x40;
 
 pub const QOI_OP_LUMA: u8 = 0x80;
@@ -12,9 +10,6 @@ pub const QOI_OP_RUN: u8 = 0xc0;
 pub const QOI_OP_RGB: u8 = 0xfe;
 
 pub const QOI_OP_RGBA: u8 = 0xff;
-
-// The two high bits, by which the first four are told apart.
-pub const QOI_MASK_2: u8 = 0xc0;
 
 pub const QOI_HEADER_SIZE: usize = 14;
 
