@@ -3,7 +3,7 @@
 use mathlib.Core.Path.{_≡_, refl, sym, _∙_, ap}
 use mathlib.Core.Bool.{Bool, true, false, cond, _&&_, _||_}
 use mathlib.Core.List.{List}
-use Prim.Native.Nat.{ℕ, zero, suc, _+_, _<_}
+use Prim.Native.Nat.{ℕ, zero, suc, _+_}
 use native.Mathlib.Omega.{arith}
 use borrow.Author.Tests.{eqb-true, eqb-false}
 use lib.Dec.{T, eqb, ltb, eqb→eq}
@@ -24,6 +24,7 @@ use Rattle.rules.specs.Decode.{decoder, decoderStores, decoderKeeps, decoderRea
 use Rattle.rules.specs.Trace.{ownChannels, visitsOn, chunkDue, visits}
 use Rattle.rules.specs.Document.{document, namesFilled, filledAfter, filledIn, indexesFilled}
 use Rattle.demands.specs.Document.{DocumentAgrees}
+use Rattle.rules.proofs.ChunkLaws.{slot-small}
 use Rattle.rules.proofs.StuckLaws.{Allowed, allowed, Alike, alike, stuck, reads-alike, stuck-is-refused}
 use Rattle.rules.proofs.TraceLaws.{refused-is-not-done, whole-is, remaining-is, trace-is}
 
@@ -40,11 +41,6 @@ if-same {P} a b same other = go (eqb a b) refl
     go : (t : Bool) → eqb a b ≡ t → P
     go true e = same (eqb-true _ _ e)
     go false e = other (eqb-false _ _ e)
-
--- a colour's slot is one of the 64
-slot-small : (p : Pixel) → slotOf p < 64
-unfolding slotOf
-slot-small p = omega arith
 
 -- a pixel of which the decoder keeps all
 abbrev Kept : ℕ → Pixel → Type 0

@@ -22,7 +22,8 @@ use Rattle.rules.specs.Trace.{Visit, ownChannels}
 use Rattle.rules.specs.Document.{namesFilled, filledAfter, filledIn}
 use Rattle.rules.specs.Encode.{Pen, startPen, slotHolds, runEnded, differingChunk, colourChunk, penAfter, isLast, chunksFrom}
 use Rattle.rules.proofs.PlaceLaws.{Shaped, shaped-start, stored-shaped}
-use Rattle.rules.proofs.EncodeLaws.{Whole, Wholes, start-whole, same-is, slot-small, colour-chosen}
+use Rattle.rules.proofs.ChunkLaws.{slot-small}
+use Rattle.rules.proofs.EncodeLaws.{Whole, Wholes, start-whole, same-is, colour-chosen}
 use Rattle.rules.proofs.PenLaws.{Ended, no-run, as-index, as-run, ended, Differing, by-slot, by-colour, differing, Penned, held-back, run-written, differs, penned}
 use Rattle.rules.proofs.PictureLaws.{three-at-least}
 use Rattle.demands.proofs.PenAndPlace.{decoder-reads}

@@ -25,7 +25,8 @@ use Rattle.rules.specs.Encode.{Pen, startPen, runEnded, slotHolds, differingChu
 use Rattle.rules.proofs.PlaceLaws.{Shaped, shaped-start, stored-shaped}
 use Rattle.rules.proofs.ReadingLaws.{remaining-unfolds}
 use Rattle.rules.proofs.PenLaws.{Ended, no-run, as-index, as-run, ended, Differing, by-slot, by-colour, differing}
-use Rattle.rules.proofs.EncodeLaws.{Writable, Whole, start-whole, chunk-read-back, chunk-length, pixel-is, same-is, slot-small, colour-chosen}
+use Rattle.rules.proofs.ChunkLaws.{slot-small}
+use Rattle.rules.proofs.EncodeLaws.{Writable, Whole, start-whole, chunk-read-back, chunk-length, pixel-is, same-is, colour-chosen}
 
 -- what a way does to read an encoder's chunks with so many channels: it keeps whole pixels as they are, stores what the decoder stores, and reads RGBA where there are not three channels
 pub record Reads (way : Way) (n : ℕ) : Type 0 where

@@ -21,7 +21,7 @@ use Rattle.rules.specs.Chunk.{Chunk, Found, cut, chunk, chunkAt}
 use Rattle.rules.specs.Reading.{Place, Answer, done, refused, Move, closing, sizeWanted, move, moveBy, pasted, placeAfter, bytesOf}
 use Rattle.rules.specs.Decode.{decoder, decoderReadsRgba}
 use Rattle.rules.specs.Step.{State, wellFormed, Step, more, end, stepBy, step, steppedOver, Ran, going, ended, runOn, running}
-use Rattle.rules.proofs.ChunkLaws.{no-row, Sound, SoundFound, something, sound-found}
+use Rattle.rules.proofs.ChunkLaws.{no-row, Sound, sound-of, sound-found}
 use Rattle.rules.proofs.PastingLaws.{length-pasted}
 use Rattle.rules.proofs.PlaceLaws.{Shaped, shaped-next, pixel-reached, stays-inside}
 use Rattle.rules.proofs.ReadingLaws.{Moved, moved, moved-last, advances, stays-within}
@@ -79,9 +79,6 @@ past-move header wanted m place nothing = rw (nothing, no-row _ [] refl) (go (lt
     go : (b : Bool) → cond b (Move.end (refused UnexpectedBufferEnd)) (Move.end (refused UnexpectedBufferEnd)) ≡ Move.end (refused UnexpectedBufferEnd)
     go true = refl
     go false = refl
-
-sound-of : {part : List ℕ} {k : Chunk} → SoundFound part (chunk k) → Sound part k
-sound-of (something k s) = s
 
 module _ (m : List ℕ) where
   -- a state that a run may go on from

@@ -9,6 +9,8 @@ use native.Mathlib.Decide.{decLe}
 use native.Mathlib.Omega.{arith}
 use borrow.Author.Tests.{lt-ltb, le-ltb, le-leb, lt-leb}
 use lib.ListN.{length, getD}
+use Rattle.pixel.specs.declared.Pixel.{Pixel}
+use Rattle.pixel.specs.Colour.{slotOf}
 use Rattle.rules.specs.Chunk.{Chunk, Found, cut, chunk, needing, chunkFrom, chunkAt, timesOf, sizeOf, INDEX, DIFF, LUMA, RUN, RGB, RGBA, Stuck}
 
 -- a proof for each of two numbers' orders
@@ -142,6 +144,10 @@ pub data SoundFound (part : List ℕ) : Found → Type 0 where
   nothing : SoundFound part cut
   something : (k : Chunk) → Sound part k → SoundFound part (chunk k)
 
+-- a chunk that is found is sound
+pub sound-of : {part : List ℕ} {k : Chunk} → SoundFound part (chunk k) → Sound part k
+sound-of (something k s) = s
+
 -- whatever is found in a part keeps to it
 pub sound-found : (readsRgba : Bool) (part : List ℕ) → SoundFound part (chunkAt readsRgba part)
 unfolding timesOf sizeOf
@@ -175,3 +181,8 @@ sound-found readsRgba part =
     last false part some high =
         if-below (length part) 8 (λ short. rw (stuck-cut part some short high) nothing)
         (λ whole. rw (stuck-row part whole high) (something Stuck (record { once = one; fits = zero-le; slot = tt })))
+
+-- a colour's slot is one of the 64
+pub slot-small : (p : Pixel) → slotOf p < 64
+unfolding slotOf
+slot-small p = omega arith

@@ -10,7 +10,7 @@ use lib.Dec.{ltb, eqb}
 use lib.IntN.{pos, negsuc}
 use lib.ListN.{length, getD}
 use Rattle.pixel.specs.declared.Pixel.{Pixel}
-use Rattle.pixel.specs.Colour.{pixelOf, red, green, blue, alpha, slotOf, startPixel, samePixel, wrappedSum, wrappedDifference, signedOf, within}
+use Rattle.pixel.specs.Colour.{pixelOf, red, green, blue, alpha, startPixel, samePixel, wrappedSum, wrappedDifference, signedOf, within}
 use Rattle.rules.specs.Chunk.{Chunk, chunk, chunkAt, shifted, colourOf, timesOf, sizeOf, INDEX, DIFF, LUMA, RUN, RGB, RGBA, Stuck}
 use Rattle.rules.specs.Decode.{decoderStores}
 use Rattle.rules.specs.Encode.{fitsDiff, fitsLuma, diffChunk, lumaChunk, colourChunk, chunkBytes, chunksBytes}
@@ -118,11 +118,6 @@ same-is p q four four′ e =
     pixel-is p four
     ∙ parts-same (eqb-true _ _ (first .0)) (eqb-true _ _ (second .0)) (eqb-true _ _ (third .0)) (eqb-true _ _ (third .1))
     ∙ sym (pixel-is q four′)
-
--- a slot is one of 64
-pub slot-small : (p : Pixel) → slotOf p < 64
-unfolding slotOf
-slot-small p = omega arith
 
 -- a pixel of a picture with so many channels: four numbers, its colours bytes, and with three channels opaque
 pub record Whole (n : ℕ) (p : Pixel) : Type 0 where

@@ -13,7 +13,8 @@ use Rattle.pixel.specs.declared.Pixel.{Pixel}
 use Rattle.pixel.specs.Colour.{slotOf, samePixel}
 use Rattle.rules.specs.Chunk.{Chunk, sizeOf, INDEX, RUN}
 use Rattle.rules.specs.Encode.{Pen, runEnded, slotHolds, differingChunk, colourChunk, runWritten, pixelChunks, withRun, withPixel, penAfter, isLast, chunksFrom, chunkBytes, chunksBytes}
-use Rattle.rules.proofs.EncodeLaws.{Writable, Whole, Wholes, colour-chosen, slot-small, and-split, or-split, chunk-length, chunks-append}
+use Rattle.rules.proofs.ChunkLaws.{slot-small}
+use Rattle.rules.proofs.EncodeLaws.{Writable, Whole, Wholes, colour-chosen, and-split, or-split, chunk-length, chunks-append}
 
 -- a run that another pixel ends: none, one that is INDEX, or RUN
 pub data Ended (pen : Pen) : List Chunk → Type 0 where

@@ -16,10 +16,10 @@ use Rattle.pixel.specs.Packed.{unpacked}
 use Rattle.pixel.specs.Types.{channelsNumber}
 use Rattle.header.specs.declared.Header.{Header}
 use Rattle.header.specs.Header.{pixelCount}
-use Rattle.rules.specs.Chunk.{Chunk, cut, chunk, chunkAt, colourOf, timesOf, sizeOf, INDEX, RUN}
+use Rattle.rules.specs.Chunk.{Chunk, chunk, chunkAt, colourOf, timesOf, sizeOf, INDEX, RUN}
 use Rattle.rules.specs.Reading.{Place, more, move, moveBy, pasted, repeated, pixelsBrought, pixelAfter, placeAfter, bytesOf}
 use Rattle.rules.specs.Decode.{decoder, decoderStores, decoderKeeps, decoderReadsRgba}
-use Rattle.rules.proofs.ChunkLaws.{Sound, SoundFound, something, sound-found}
+use Rattle.rules.proofs.ChunkLaws.{Sound, sound-of, sound-found}
 use Rattle.rules.proofs.PastingLaws.{whole-tail, length-pasted, repeated-length}
 use Rattle.chunk.specs.declared.Colour.{Colour}
 use Rattle.chunk.specs.declared.Colour.the-variants as colour
@@ -32,14 +32,6 @@ use Rattle.walk.specs.Inner.{threeBytes, fourBytes}
 -- an array's length is that of what its elements are mapped to
 pub unmapped : {X Y : Type 0} (f : X → Y) (l : List X) (n : ℕ) → length (map f l) ≡ n → length l ≡ n
 unmapped f l n e = sym (length-map l f) ∙ e
-
--- a slot is one of 64
-pub slot-below : (p : Pixel) → slotOf p < 64
-unfolding slotOf
-slot-below p = omega arith
-
-sound-of : {part : List ℕ} {k : Chunk} → SoundFound part (chunk k) → Sound part k
-sound-of (something k s) = s
 
 -- the place that the loop's locals are
 abbrev pub placeAt : ℕ → ℕ → Pixel → List Pixel → Place

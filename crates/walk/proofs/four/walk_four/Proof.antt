@@ -14,7 +14,8 @@ use Rattle.header.proofs.Laws.{pixels-small}
 use Rattle.rules.specs.Decode.{decoderKeeps}
 use Rattle.walk.specs.Walking.{walking}
 use Rattle.walk.specs.Inner.{fourBytes}
-use Rattle.walk.proofs.Loop.{Of, Head, placeAt, finds, index-within, run-some, run-fits, colour-within, ends-bound, ends-cut, after-index, after-run, after-colour, four-bytes, slot-below, unmapped}
+use Rattle.rules.proofs.ChunkLaws.{slot-small}
+use Rattle.walk.proofs.Loop.{Of, Head, placeAt, finds, index-within, run-some, run-fits, colour-within, ends-bound, ends-cut, after-index, after-run, after-colour, four-bytes, unmapped}
 use Rattle.walk.proofs.Packed.{alphaIn, recoloured, alpha-kept}
 use Rattle.walk.proofs.four.walk_four.Statement.{statement}
 use Rattle.walk.proofs.four.walk_four.Tie as tie
@@ -230,10 +231,10 @@ unpack-requires-2 : tie.Need-unpack-requires-2 Inv-loop μ-loop
 unpack-requires-2 c κs = search needs
 
 mul-slots : tie.Need-mul-slots Inv-loop μ-loop
-mul-slots c = record { fits = omega (arith, c .before .slot2 .ensures, slot-below (unpacked (c .before .before .recolour .result))) }
+mul-slots c = record { fits = omega (arith, c .before .slot2 .ensures, slot-small (unpacked (c .before .before .recolour .result))) }
 
 array-set-from-slots : tie.Need-array-set-from-slots Inv-loop μ-loop
-array-set-from-slots c = rw (c .before .slot2 .ensures) (slot-below _)
+array-set-from-slots c = rw (c .before .slot2 .ensures) (slot-small _)
 
 mul-put-four-2 : tie.Need-mul-put-four-2 Inv-loop μ-loop
 mul-put-four-2 c = search needs
