@@ -1,4 +1,5 @@
--- The number code's laws: a written number reads back, how long it is, and what a number that is read is below.
+-- The number code's laws: a written number reads back, how long it is, what a number that is read is below, and that
+-- it is written back. Assumes nothing.
 use Prim.Native.Nat.{ℕ, zero, suc, _+_, _-_, _*_, _/_, _%_, _^_, _≤_, _<_}
 use mathlib.Core.Path.{_≡_, refl, sym, ap, subst, _∙_}
 use mathlib.Core.Bool.{Bool, true, false, cond}
@@ -8,9 +9,10 @@ use native.Mathlib.Numerals.{add-one}
 use native.Mathlib.Decide.{decLe}
 use native.Mathlib.Omega.{arith}
 use lib.Dec.{eqb}
-use lib.ListN.{length, drop, getD}
+use lib.ListN.{length, take, drop, getD}
 use lib.Seq.{drop-append-seam}
-use borrow.Author.Tests.{lt-ltb, le-ltb, eq-eqb, ne-eqb}
+use borrow.Author.Tests.{eqb-true, eqb-false, lt-ltb, le-ltb, eq-eqb, ne-eqb}
+use Rattle.pixel.specs.declared.error.Error.the-variants.{BadState}
 use Rattle.number.specs.declared.NumberRead.{NumberRead}
 use Rattle.number.specs.declared.NumberRead.the-variants as read
 use Rattle.number.specs.Seven.{sevenBits, sevenBitsOf, readNumber, readMore, groupBelow}
@@ -163,3 +165,62 @@ number-within (byte ∷ rest) are =
 pub read-bounds : (bytes : List ℕ) (value used : ℕ) → Bytes bytes → readNumber bytes ≡ read.Number value used
     → (value < 2 ^ 64) × (1 ≤ used) × (used ≤ 10) × (used ≤ length bytes)
 read-bounds bytes value used are e = subst (Within (2 ^ 64) 10 bytes) e (number-within bytes are)
+
+-- what is read is at least so much, and is written again, with `more` bytes after the first, as the bytes that it took
+abbrev Again : ℕ → ℕ → List ℕ → NumberRead → Type 0
+Again least more bytes (read.Number value used) = (least ≤ value) × (sevenBitsOf more value ≡ take used bytes)
+Again least more bytes (read.Refused e) = Unit {0}
+
+-- a group below it keeps it so
+group-again :
+    (least byte more : ℕ) (rest : List ℕ) (after : NumberRead) → least ≤ 1 → 128 ≤ byte → byte < 256
+    → Again 1 more rest after → Again least (suc more) (byte ∷ rest) (groupBelow byte after)
+unfolding groupBelow
+group-again least byte more rest (read.Number value used) few low high again =
+    let n = byte - 128 + 128 * value in
+    let first : 128 + n % 128 ≡ byte = omega arith in
+    let above : n / 128 ≡ value = omega arith in
+    (omega arith, next-byte more n (omega arith) ∙ rw (first, above, again .1, add-one))
+group-again least byte more rest (read.Refused e) few low high again = tt
+
+-- the bytes after the first stand for a number above 0, and are written again
+more-again : (more : ℕ) (bytes : List ℕ) → Bytes bytes → Again 1 more bytes (readMore more bytes)
+unfolding readMore
+more-again more [] are = tt
+more-again zero (byte ∷ rest) are = go (eqb byte 1) refl
+  where
+    go :
+        (one : Bool) → eqb byte 1 ≡ one
+        → Again 1 zero (byte ∷ rest) (cond one (read.Number 1 1) (read.Refused BadState))
+    go true e = (omega arith, rw (eqb-true byte 1 e) (last-byte zero 1 (omega arith)))
+    go false e = tt
+more-again (suc more) (byte ∷ rest) are =
+    by-size byte (λ low. rw (lt-ltb byte 128 low) (go low (eqb byte 0) refl))
+    (λ high.
+    let after = more-again more rest (λ i h. are (suc i) (omega arith)) in
+    rw (le-ltb byte 128 high)
+    (group-again 1 byte more rest (readMore more rest) (omega arith) high (are 0 (omega arith)) after))
+  where
+    go :
+        byte < 128 → (none : Bool) → eqb byte 0 ≡ none
+        → Again 1 (suc more) (byte ∷ rest) (cond none (read.Refused BadState) (read.Number byte 1))
+    go low true e = tt
+    go low false e = (omega (arith, eqb-false byte 0 e), last-byte (suc more) byte low)
+
+-- the bytes of what a part says are written again
+number-again : (bytes : List ℕ) → Bytes bytes → Again 0 9 bytes (readNumber bytes)
+unfolding readNumber
+number-again [] are = tt
+number-again (byte ∷ rest) are =
+    by-size byte (λ low. rw (lt-ltb byte 128 low) (omega arith, last-byte 9 byte low))
+    (λ high.
+    let after = more-again 8 rest (λ i h. are (suc i) (omega arith)) in
+    rw (le-ltb byte 128 high)
+    (group-again 0 byte 8 rest (readMore 8 rest) (omega arith) high (are 0 (omega arith)) after))
+
+-- a number that is read from bytes is written back as those that it took
+pub read-written-back :
+    (bytes : List ℕ) (value used : ℕ) → Bytes bytes → readNumber bytes ≡ read.Number value used
+    → sevenBits value ≡ take used bytes
+unfolding sevenBits
+read-written-back bytes value used are e = subst (Again 0 9 bytes) e (number-again bytes are) .1

@@ -3,6 +3,7 @@ pub mod ChunkLaws
 pub mod PastingLaws
 pub mod PlaceLaws
 pub mod ReadingLaws
+pub mod RecordAgainLaws
 pub mod RecordLaws
 pub mod SameLaws
 pub mod StepLaws
