@@ -1,15 +1,13 @@
--- The marker test of the part of a message from a place on, and how it is told.
+-- The marker test of the part of a message from a place on.
 -- Assumes nothing.
 use mathlib.Core.Path.{_≡_, refl}
 use mathlib.Core.Bool.{Bool, true, false, cond}
 use mathlib.Core.List.{List}
-use Prim.Native.Nat.{ℕ, _≤_}
-use borrow.Author.Tests.{le-ltb}
+use Prim.Native.Nat.{ℕ}
 use lib.Dec.{ltb}
 use lib.ListN.{length, take, drop}
 use Rattle.chunk.specs.Found.{endingAt, closedBy}
 use Rattle.chunk.specs.declared.Ending.the-variants as ending
-use Rattle.rules.proofs.SameLaws.{same-told}
 use Rattle.rules.specs.Reading.{closing, sameBytes, marker}
 
 -- the marker test at a place is that of the part from there on
@@ -24,11 +22,3 @@ closing-by size message at = go (ltb (length (drop at message)) 8) (sameBytes (t
     go true same = refl
     go false true = refl
     go false false = refl
-
--- an answer whether the first eight bytes are the marker tells the ending
-pub ending-told :
-    (part : List ℕ) (is : Bool) → 8 ≤ length part
-    → (is ≡ true → take 8 part ≡ marker) × (take 8 part ≡ marker → is ≡ true)
-    → cond is ending.Marker ending.Wrong ≡ endingAt part
-unfolding endingAt
-ending-told part is long told = rw (le-ltb (length part) 8 long, same-told (take 8 part) marker is told)

@@ -1,10 +1,13 @@
 // One chunk of a message: what its first bytes say, and the pixel that a chunk of colour makes of the one before it.
 ghost use mathlib.Core.Path.{_≡_};
 ghost use mathlib.Core.List.{[]};
+ghost use Prim.Native.Nat.{_≤_};
+ghost use lib.ListN.{length, take};
 ghost use Rattle.pixel.specs.Colour.{alpha as alphaOf, clearPixel, withAlpha};
 ghost use Rattle.pixel.specs.Packed.{unpacked};
 ghost use Rattle.pixel.specs.Types.{channelsNumber};
 ghost use Rattle.rules.specs.Chunk.{chunkAt, colourOf, sizeOf, shifted as shiftedBy};
+ghost use Rattle.rules.specs.Reading.{sameBytes, marker};
 ghost use Rattle.rules.specs.Decode.{decoderReadsRgba};
 ghost use Rattle.chunk.specs.Found.{foundOf, chunkOf, endingAt};
 use pixel::consts::QOI_OP_DIFF;
@@ -100,11 +103,26 @@ pub fn read_end(part: &[u8]) -> Ending
     if part.len() < QOI_PADDING_SIZE {
         return Ending::Cut;
     }
-    if check::same(&part[..QOI_PADDING_SIZE], &QOI_PADDING) {
+    if is_marker(part) {
         Ending::Marker
     } else {
         Ending::Wrong
     }
+}
+
+// Whether the first eight bytes are the marker's. It does not stop at one that differs: the decode's loops, which it is
+// compiled together with, would be slower.
+fn is_marker(part: &[u8]) -> bool
+    requires { ⌜ 8 ≤ length (now part) ⌝ }
+    ensures { λ r. ⌜ r ≡ sameBytes (take 8 (now (part .entry))) marker ⌝ }
+{
+    let mut same = true;
+    for i in 0..QOI_PADDING_SIZE {
+        if part[i] != QOI_PADDING[i] {
+            same = false;
+        }
+    }
+    same
 }
 
 // The alpha that a chunk of colour leaves.
