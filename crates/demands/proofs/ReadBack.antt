@@ -10,18 +10,20 @@ use lib.ListN.{length}
 use Rattle.pixel.specs.declared.types.Channels.{Channels}
 use Rattle.pixel.specs.declared.types.Channels.the-variants.{Rgb, Rgba}
 use Rattle.pixel.specs.declared.types.ChannelsRead.the-variants as channels-read
+use Rattle.pixel.specs.Bytes.{AllBytes}
 use Rattle.pixel.specs.Types.{channelsNumber, channelsFrom}
 use Rattle.header.specs.declared.Header.{Header}
 use Rattle.header.specs.Header.{pixelCount, dimensionsFit}
+use Rattle.header.proofs.Laws.{channels-number}
 use Rattle.rules.specs.Reading.{Way, repeated, sizeWanted, startPlace, remaining, readingInto, withWanted, withHeader, wholeReading}
 use Rattle.rules.specs.Decode.{decoder}
 use Rattle.rules.specs.Document.{document}
-use Rattle.rules.specs.Encode.{startPen, pixelsFrom, AllBytes, chunksOf, streamOf, encoded, encoding}
+use Rattle.rules.specs.Encode.{startPen, pixelsFrom, chunksOf, streamOf, encoded, encoding}
 use Rattle.rules.proofs.PictureLaws.{every-byte, pixels-whole, pixels-count, pixels-written, three-at-least, stream-fits}
 use Rattle.demands.specs.ReadBack.{pictureRead, ReadBack, Encoded}
 use Rattle.demands.proofs.PixelsRead.{pixels-read}
 use Rattle.demands.proofs.Traced.{stream-opens, chunks-stand}
-use Rattle.demands.proofs.Wrote.{number-is, encode-wrote}
+use Rattle.demands.proofs.Wrote.{encode-wrote}
 use Rattle.demands.proofs.PenAndPlace.{Reads, document-reads, decoder-reads, start-meets}
 
 -- their number stands for them
@@ -74,5 +76,5 @@ encode-reads-back picture width height colorspace room size bytes e =
     record {
       all = wrote .all;
       fits = omega (arith, ap length (wrote .stream-is), stream-fits (wrote .header) picture (wrote .fit) bytes);
-      back = rw (wrote .stream-is) (rw (number-is (length picture / (width * height)) (wrote .header .channels) (wrote .channels-are)) at back);
+      back = rw (wrote .stream-is) (rw (channels-number (length picture / (width * height)) (wrote .header .channels) (wrote .channels-are)) at back);
     }

@@ -28,7 +28,7 @@ use Rattle.rules.specs.Step.{State, Typed, alphaPasses, wantedPasses, wellForme
 use Rattle.rules.proofs.ChunkLaws.{Sound}
 use Rattle.rules.proofs.PlaceLaws.{Shaped, shaped-start, shaped-next, pixel-reached, stays-inside}
 use Rattle.rules.proofs.ReadingLaws.{after-after, remaining-unfolds}
-use Rattle.rules.proofs.RecordLaws.{formed, forms, wanted-few}
+use Rattle.rules.proofs.RecordLaws.{formed, forms, wanted-few, refused-is-no-start}
 use Rattle.demands.specs.TakeOver.{bytesBefore}
 use Rattle.rules.proofs.StepLaws.{nextState, bytesBy, moveFrom, needed, well-next}
 
@@ -43,9 +43,6 @@ record Opening (m : List ℕ) (w : ℕ) (s : State) : Type 0 where
   reads : headerOf m ≡ header-read.Ok header
   wants : channelsFrom w ≡ channels-read.Ok channels
   is : startState header (channelsNumber channels) ≡ s
-
-refused-is-no-start : {e : Error} {s : State} → notStarted e ≡ started s → ⊥
-refused-is-no-start p = let z : _≡_ {A = ℕ} 0 1 = cc in omega arith
 
 opening : (m : List ℕ) (w : ℕ) (s : State) → starting m w ≡ started s → Opening m w s
 unfolding starting startHeader startWanted

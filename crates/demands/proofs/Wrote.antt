@@ -22,6 +22,7 @@ use Rattle.pixel.specs.Types.{channelsNumber, channelsFrom, colorSpaceFrom}
 use Rattle.header.specs.declared.Header.{Header}
 use Rattle.header.specs.declared.HeaderRead.the-variants as header-read
 use Rattle.header.specs.Header.{dimensionsFit, headerFrom, encodedRoom, defaultHeader, withChannels, withColorSpace}
+use Rattle.header.proofs.Laws.{channels-number}
 use Rattle.rules.specs.Encode.{streamOf, Encoding, encoded, notEncoded, nothingEncoded, encodingInto, withSpace, withCount, withDimensions, encoding}
 use Rattle.demands.specs.Streams.{Wrote}
 
@@ -30,18 +31,6 @@ refused-is-no-encode p = let z : _≡_ {A = ℕ} 0 1 = cc in omega arith
 
 same-size : {k n : ℕ} → encoded k ≡ encoded n → n ≡ k
 same-size p = cc
-
--- a channel count that is accepted is the number read
-pub number-is : (n : ℕ) (c : Channels) → channelsFrom n ≡ channels-read.Ok c → channelsNumber c ≡ n
-number-is n c e = go (eqb n 3) refl (eqb n 4) refl e
-  where
-    go :
-        (three : Bool) → eqb n 3 ≡ three → (four : Bool) → eqb n 4 ≡ four
-        → cond three (channels-read.Ok Rgb) (cond four (channels-read.Ok Rgba) (channels-read.Refused (InvalidChannels (min n 255)))) ≡ channels-read.Ok c
-        → channelsNumber c ≡ n
-    go true t four f e = let is : Rgb ≡ c = cc in rw (← is) (sym (eqb-true _ _ t))
-    go false t true f e = let is : Rgba ≡ c = cc in rw (← is) (sym (eqb-true _ _ f))
-    go false t false f e = absurd (let z : _≡_ {A = ℕ} 0 1 = cc in omega arith)
 
 module _ (picture : List ℕ) (width height colorspace room size : ℕ) where
   -- where an encode is accepted it wrote the stream
@@ -84,7 +73,7 @@ module _ (picture : List ℕ) (width height colorspace room size : ℕ) where
                 colorspace-is = read;
                 fit = fit;
                 needed =
-                    rw (number-is quotient c counted)
+                    rw (channels-number quotient c counted)
                     (omega (arith, div-add-mod' (length picture) (width * height), mul-comm (width * height) quotient));
                 roomy = ltb-false room required t;
                 stream-is = refl;

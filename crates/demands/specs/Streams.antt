@@ -6,10 +6,11 @@ use lib.Dec.{T}
 use lib.ListN.{length}
 use Rattle.pixel.specs.declared.types.ChannelsRead.the-variants as channels-read
 use Rattle.pixel.specs.declared.types.ColorSpaceRead.the-variants as colorspace-read
+use Rattle.pixel.specs.Bytes.{AllBytes}
 use Rattle.pixel.specs.Types.{channelsNumber, channelsFrom, colorSpaceFrom}
 use Rattle.header.specs.declared.Header.{Header}
 use Rattle.header.specs.Header.{pixelCount, dimensionsFit, encodedRoom}
-use Rattle.rules.specs.Encode.{AllBytes, chunksOf, streamOf}
+use Rattle.rules.specs.Encode.{chunksOf, streamOf}
 use Rattle.rules.specs.Strict.{accepted, strict}
 use Rattle.rules.specs.Document.{indexesFilled}
 

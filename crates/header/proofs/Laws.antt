@@ -11,6 +11,7 @@ use lib.Dec.{T, ltb, leb, eqb, leb→le, eqb→eq, lit<}
 use lib.ListN.{length, getD, take, drop}
 use lib.Seq.{drop-cons}
 use borrow.Author.Tests.{le-ltb, ltb-false, eqb-true}
+use Rattle.pixel.specs.Bytes.{AllBytes}
 use Rattle.pixel.specs.Types.{channelsNumber, colorSpaceNumber, channelsFrom, colorSpaceFrom}
 use Rattle.pixel.specs.Colour.{red, green, blue, alpha}
 use Rattle.pixel.specs.Packed.{packedOf, unpacked}
@@ -194,7 +195,7 @@ taken bytes at (suc n) fits =
     rw (drop-cons bytes at 0 (omega arith))
     (ap {B = List ℕ} (λ l. getD bytes at 0 ∷ l) (taken bytes (suc at) n (omega arith)))
 
-module _ (bytes : List ℕ) (are : (i : ℕ) → i < length bytes → getD bytes i 0 < 256) where
+module _ (bytes : List ℕ) (are : AllBytes bytes) where
   -- the number at a place is written back as the four bytes there
   number-written-back :
       (n at : ℕ) → n ≡ numberAt bytes at → at + 4 ≤ length bytes → bigEndianBytes n ≡ bytesFrom bytes at 4

@@ -12,6 +12,7 @@ use lib.Dec.{eqb}
 use lib.ListN.{length, take, drop, getD}
 use lib.Seq.{drop-append-seam}
 use borrow.Author.Tests.{eqb-true, eqb-false, lt-ltb, le-ltb, eq-eqb, ne-eqb}
+use Rattle.pixel.specs.Bytes.{AllBytes}
 use Rattle.pixel.specs.declared.error.Error.the-variants.{BadState}
 use Rattle.number.specs.declared.NumberRead.{NumberRead}
 use Rattle.number.specs.declared.NumberRead.the-variants as read
@@ -122,10 +123,6 @@ read-written n rest fits =
 pub rest-after-written : (n : ℕ) (rest : List ℕ) → drop (length (sevenBits n)) (sevenBits n ++ rest) ≡ rest
 rest-after-written n rest = drop-append-seam (sevenBits n) rest
 
--- each element of a list is a byte
-abbrev pub Bytes : List ℕ → Type 0
-Bytes bytes = (i : ℕ) → i < length bytes → getD bytes i 0 < 256
-
 -- what is read lies below a limit, and took at least one and at most so many of the bytes
 abbrev pub Within : ℕ → ℕ → List ℕ → NumberRead → Type 0
 Within limit most bytes (read.Number value used) = (value < limit) × (1 ≤ used) × (used ≤ most) × (used ≤ length bytes)
@@ -144,7 +141,7 @@ group-within byte limit above most rest (read.Number value used) low high room w
 group-within byte limit above most rest (read.Refused e) low high room within = tt
 
 -- what the bytes after the first say, `more` and one at most
-pub more-within : (more : ℕ) (bytes : List ℕ) → Bytes bytes → Within (2 * 128 ^ more) (suc more) bytes (readMore more bytes)
+pub more-within : (more : ℕ) (bytes : List ℕ) → AllBytes bytes → Within (2 * 128 ^ more) (suc more) bytes (readMore more bytes)
 unfolding readMore
 more-within more [] are = tt
 more-within zero (byte ∷ rest) are = either-read (Within 2 1 (byte ∷ rest)) (eqb byte 1) _ _ (omega arith) tt
@@ -154,7 +151,7 @@ more-within (suc more) (byte ∷ rest) are =
     (λ high. rw (le-ltb byte 128 high) (group-within byte (2 * 128 ^ more) (2 * 128 ^ suc more) (suc more) rest (readMore more rest) high (are 0 (omega arith)) (omega (arith, pow-suc 128 more)) (more-within more rest (λ i h. are (suc i) (omega arith)))))
 
 -- what a part says
-number-within : (bytes : List ℕ) → Bytes bytes → Within (2 ^ 64) 10 bytes (readNumber bytes)
+number-within : (bytes : List ℕ) → AllBytes bytes → Within (2 ^ 64) 10 bytes (readNumber bytes)
 unfolding readNumber
 number-within [] are = tt
 number-within (byte ∷ rest) are =
@@ -162,7 +159,7 @@ number-within (byte ∷ rest) are =
     (λ high. rw (le-ltb byte 128 high) (group-within byte (2 ^ 57) (2 ^ 64) 9 rest (readMore 8 rest) high (are 0 (omega arith)) (omega arith) (more-within 8 rest (λ i h. are (suc i) (omega arith)))))
 
 -- a number that is read from bytes is below 2^64 and took one to ten of them
-pub read-bounds : (bytes : List ℕ) (value used : ℕ) → Bytes bytes → readNumber bytes ≡ read.Number value used
+pub read-bounds : (bytes : List ℕ) (value used : ℕ) → AllBytes bytes → readNumber bytes ≡ read.Number value used
     → (value < 2 ^ 64) × (1 ≤ used) × (used ≤ 10) × (used ≤ length bytes)
 read-bounds bytes value used are e = subst (Within (2 ^ 64) 10 bytes) e (number-within bytes are)
 
@@ -184,7 +181,7 @@ group-again least byte more rest (read.Number value used) few low high again =
 group-again least byte more rest (read.Refused e) few low high again = tt
 
 -- the bytes after the first stand for a number above 0, and are written again
-more-again : (more : ℕ) (bytes : List ℕ) → Bytes bytes → Again 1 more bytes (readMore more bytes)
+more-again : (more : ℕ) (bytes : List ℕ) → AllBytes bytes → Again 1 more bytes (readMore more bytes)
 unfolding readMore
 more-again more [] are = tt
 more-again zero (byte ∷ rest) are = go (eqb byte 1) refl
@@ -208,7 +205,7 @@ more-again (suc more) (byte ∷ rest) are =
     go low false e = (omega (arith, eqb-false byte 0 e), last-byte (suc more) byte low)
 
 -- the bytes of what a part says are written again
-number-again : (bytes : List ℕ) → Bytes bytes → Again 0 9 bytes (readNumber bytes)
+number-again : (bytes : List ℕ) → AllBytes bytes → Again 0 9 bytes (readNumber bytes)
 unfolding readNumber
 number-again [] are = tt
 number-again (byte ∷ rest) are =
@@ -220,7 +217,7 @@ number-again (byte ∷ rest) are =
 
 -- a number that is read from bytes is written back as those that it took
 pub read-written-back :
-    (bytes : List ℕ) (value used : ℕ) → Bytes bytes → readNumber bytes ≡ read.Number value used
+    (bytes : List ℕ) (value used : ℕ) → AllBytes bytes → readNumber bytes ≡ read.Number value used
     → sevenBits value ≡ take used bytes
 unfolding sevenBits
 read-written-back bytes value used are e = subst (Again 0 9 bytes) e (number-again bytes are) .1

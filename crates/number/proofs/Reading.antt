@@ -8,12 +8,13 @@ use native.Mathlib.Omega.{arith}
 use lib.Dec.{ltb, eqb}
 use lib.ListN.{length, getD, take, drop}
 use lib.Seq.{take-all}
+use Rattle.pixel.specs.Bytes.{AllBytes}
 use Rattle.pixel.specs.declared.error.Error.the-variants.{UnexpectedBufferEnd, BadState}
 use Rattle.number.specs.declared.NumberRead.{NumberRead}
 use Rattle.number.specs.declared.NumberRead.the-variants as read
 use Rattle.number.specs.Inner.{GroupFits}
 use Rattle.number.specs.Seven.{readNumber, readMore, groupBelow}
-use Rattle.number.proofs.Laws.{Bytes, Within, more-within}
+use Rattle.number.proofs.Laws.{Within, more-within}
 
 -- the first byte of a slice, and `&bytes[1..]`
 abbrev pub first : List ℕ → ℕ
@@ -65,7 +66,7 @@ fits-of byte more bytes (read.Number value used) high le within = omega (arith, 
 fits-of byte more bytes (read.Refused e) high le within = tt
 
 -- a group can stand below what `read_more` answers of the bytes after it
-pub group-fits : (more : ℕ) (bytes : List ℕ) → 128 ≤ first bytes → more ≤ 8 → Bytes bytes → GroupFits (first bytes) (readMore more (rest bytes))
+pub group-fits : (more : ℕ) (bytes : List ℕ) → 128 ≤ first bytes → more ≤ 8 → AllBytes bytes → GroupFits (first bytes) (readMore more (rest bytes))
 group-fits more [] high le are = absurd (omega arith)
 group-fits more (byte ∷ bytes) high le are =
     rw (rest-is byte bytes)

@@ -1,4 +1,5 @@
--- The definitions of crate `pixel`: refusals, channel counts and colour spaces, pixels.
+-- The definitions of crate `pixel`: refusals, channel counts and colour spaces, pixels, lists of bytes.
+pub mod Bytes
 pub mod Colour
 pub mod Packed
 pub mod Refusal

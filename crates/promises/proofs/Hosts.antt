@@ -8,6 +8,7 @@ use borrow.Author.Tests.{le-ltb}
 use lib.ListN.{length, take}
 use Rattle.pixel.specs.declared.error.Error.{Error}
 use Rattle.pixel.specs.declared.error.Error.the-variants.{UnexpectedBufferEnd, InvalidChannels, InvalidColorSpace, InvalidMagic, InvalidImageDimensions, InvalidImageLength, OutputBufferTooSmall, InvalidPadding, BadState, RunPastImage, BytesAfterMarker}
+use Rattle.pixel.specs.Bytes.{AllBytes}
 use Rattle.pixel.specs.Refusal.{numberOf}
 use Rattle.header.proofs.Laws.{is-true}
 use Rattle.rules.specs.Reading.{Answer, done, refused}
@@ -16,6 +17,7 @@ use Rattle.rules.specs.Figures.{answerFigures, recordFigures}
 use Rattle.rules.specs.Step.{State, wellFormed, Started, started, notStarted, starting, Ran, going, ended, running}
 use Rattle.rules.specs.Record.{Recorded, recorded, notRecorded, recording, recordedOver, recordBytes, readRecord}
 use Rattle.rules.proofs.RecordLaws.{record-length}
+use Rattle.rules.proofs.RecordAgainLaws.{record-written-back, record-well-formed, record-short}
 use Rattle.demands.specs.TakeOver.{Life, begun, taken-up, stepsLeft}
 use Rattle.demands.specs.Inside.{StoppedInside}
 use Rattle.demands.proofs.TakeOver.{reached-readable, reached-well-formed, enough-steps, run-lives, run-ends-as-uncut}
@@ -23,7 +25,7 @@ use Rattle.demands.proofs.Inside.{inside-keeps-before}
 use Rattle.demands.proofs.Written.{written-record}
 use Rattle.decode.proofs.Whole.{refused-start}
 use Rattle.qoi.specs.Hosted.{startedFigures, startedOver, moreFigures, ranFigures, ranOut, ranNext, hostFigures, hostOut, hostNext}
-use Rattle.promises.specs.Hosts.{says, returned, recordRoom, Host, starts, runs, takes-over, EndsAsDecode, TakesOver, Starts}
+use Rattle.promises.specs.Hosts.{says, returned, recordRoom, Host, starts, runs, takes-over, EndsAsDecode, TakesOver, Starts, TestsRecord}
 
 -- a refusal's number is neither 0 nor 256
 pub number-small : (e : Error) → (1 ≤ numberOf e) × (numberOf e ≤ 11)
@@ -151,3 +153,21 @@ pub host-left-inside :
     {m : List ℕ} {w : ℕ} {r o b o′ : List ℕ} → Host m w r o b → (s : State) → readRecord r ≡ started s
     → StoppedInside m s o o′ → Host m w r o′ o′
 host-left-inside {o′ = o′} host s is stop = takes-over host s is o′ (inside-keeps-before stop)
+
+-- a run of 0 steps with 290 bytes for the next record tests the record alone
+pub record-alone : (m r o next : List ℕ) → AllBytes r → recordRoom ≤ length next → TestsRecord m r o next
+unfolding running recording recordedOver
+record-alone m r o next are roomy =
+    record {
+      output-stays = stays (readRecord r);
+      refuses = λ e is. (rw is, rw is);
+      accepts = λ s is.
+          let same = record-written-back r are s is in
+          let well = is-true (wellFormed s) (record-well-formed r are s is) in
+          let fits = le-ltb (length next) (length r) (omega (arith, record-short r are s is)) in
+          (rw (is, well, same, fits), rw (is, well, same, fits));
+    }
+  where
+    stays : (v : Started) → hostOut m 0 o v ≡ o
+    stays (started s) = refl
+    stays (notStarted e) = refl

@@ -3,9 +3,10 @@ use mathlib.Core.List.{List, [], _∷_}
 use mathlib.Core.Path.{_≡_}
 use Prim.Native.Nat.{ℕ, _^_, _≤_, _<_}
 use lib.ListN.{length, getD, take}
+use Rattle.pixel.specs.declared.error.Error.{Error}
 use Rattle.rules.specs.Decode.{decoding, writtenOver}
-use Rattle.rules.specs.Figures.{answerFigures}
-use Rattle.rules.specs.Step.{State, started, starting}
+use Rattle.rules.specs.Figures.{answerFigures, refusalFigures}
+use Rattle.rules.specs.Step.{State, started, notStarted, starting}
 use Rattle.rules.specs.Record.{readRecord}
 use Rattle.demands.specs.TakeOver.{bytesBefore, stepsLeft}
 use Rattle.qoi.specs.Hosted.{startedFigures, startedOver, hostFigures, hostOut, hostNext}
@@ -66,3 +67,16 @@ pub record Starts (m : List ℕ) (w : ℕ) (part : List ℕ) : Type 0 where
   pub refuses-as-decode :
       (returned (startedFigures (starting m w) part) ≡ 0 → ⊥) → (o : List ℕ)
       → EndsAsDecode m w o part (startedFigures (starting m w) part) o (startedOver (starting m w) part)
+
+-- what a run of 0 steps does with record r and 290 bytes for the next one: it tests the record alone
+pub record TestsRecord (m r o next : List ℕ) : Type 0 where
+  -- the output is as it was
+  pub output-stays : hostOut m 0 o (readRecord r) ≡ o
+  -- a record that is not read: its refusal, and no next one
+  pub refuses :
+      (e : Error) → readRecord r ≡ notStarted e
+      → (hostFigures m 0 o next (readRecord r) ≡ refusalFigures e) × (hostNext m 0 o next (readRecord r) ≡ next)
+  -- one that is read: 256, and the same record
+  pub accepts :
+      (s : State) → readRecord r ≡ started s
+      → (hostFigures m 0 o next (readRecord r) ≡ says 256 (length r)) × (hostNext m 0 o next (readRecord r) ≡ writtenOver r next)

@@ -1,18 +1,19 @@
--- Laws of a record that is read: an accepted one is written again as the same bytes.
+-- Laws of a record that is accepted: it is written again as the same bytes, its state is well formed, and it has at most 290 bytes.
 -- Assumes nothing.
 use mathlib.Core.Path.{_≡_, refl, sym, _∙_, ap}
 use mathlib.Core.Bool.{Bool, true, false, cond}
 use mathlib.Core.List.{List, _++_}
-use Prim.Native.Nat.{ℕ, zero, suc, _+_}
+use Prim.Native.Nat.{ℕ, zero, suc, _+_, _≤_}
 use native.Mathlib.Omega.{arith}
 use borrow.Author.Tests.{eqb-true, ltb-false}
-use lib.Dec.{ltb, eqb}
+use lib.Dec.{T, ltb, eqb}
 use lib.ListN.{length, drop, length-drop, take-append-drop}
 use lib.Seq.{getD-drop}
 use Rattle.pixel.specs.declared.error.Error.{Error}
 use Rattle.pixel.specs.declared.types.ChannelsRead.{ChannelsRead}
 use Rattle.pixel.specs.declared.types.ChannelsRead.the-variants as channels-read
 use Rattle.pixel.specs.declared.types.Channels.the-variants.{Rgba}
+use Rattle.pixel.specs.Bytes.{AllBytes}
 use Rattle.pixel.specs.Types.{channelsFrom}
 use Rattle.number.specs.declared.NumberRead.{NumberRead}
 use Rattle.number.specs.declared.NumberRead.the-variants as number-read
@@ -23,9 +24,10 @@ use Rattle.header.specs.declared.HeaderRead.the-variants as header-read
 use Rattle.header.specs.Header.{headerBytes, headerOf}
 use Rattle.number.proofs.Laws.{read-written-back}
 use Rattle.header.proofs.Laws.{channels-number, header-written-back}
-use Rattle.rules.specs.Encode.{pixelFrom, pixelsFrom, AllBytes}
+use Rattle.rules.specs.Encode.{pixelFrom, pixelsFrom}
 use Rattle.rules.specs.Step.{State, wellFormed, Started, started, notStarted}
 use Rattle.rules.specs.Record.{pixelsBytes, recordBytes, withNumber, readEnd, readSlots, readPositions, readWanted, readRecord}
+use Rattle.rules.proofs.RecordLaws.{refused-is-no-start, sized}
 use Rattle.rules.proofs.PictureLaws.{written, every-byte, pixels-written}
 
 -- the bytes after some bytes are bytes
@@ -46,38 +48,52 @@ unfolding pixelsFrom pixelsBytes
 slots-back bytes size = pixels-all 65 bytes ∙ pixels-written Rgba 65 bytes size
 
 module _ (s : State) where
-  -- a refusal is not a state
-  refused-is-not-started : (e : Error) → notStarted e ≡ started s → ⊥
-  refused-is-not-started e p = let z : _≡_ {A = ℕ} 0 1 = cc in omega arith
-
   -- a test that passed, where failing is a refusal
   passed : (b : Bool) (r : Started) (e : Error) → cond b r (notStarted e) ≡ started s → (b ≡ true) × (r ≡ started s)
   passed true r e p = (refl, p)
-  passed false r e p = absurd (refused-is-not-started e p)
+  passed false r e p = absurd (refused-is-no-start p)
 
   -- a test that failed, where passing is a refusal
   failed : (b : Bool) (r : Started) (e : Error) → cond b (notStarted e) r ≡ started s → (b ≡ false) × (r ≡ started s)
-  failed true r e p = absurd (refused-is-not-started e p)
+  failed true r e p = absurd (refused-is-no-start p)
   failed false r e p = (refl, p)
 
-  -- an accepted record ends with its last slot, and its state is the one that was read
-  end-accepted : (made : State) (left : ℕ) → readEnd made left ≡ started s → (left ≡ 0) × (made ≡ s)
+  -- an accepted record ends with its last slot, and its state, which is well formed, is the one that was read
+  end-accepted : (made : State) (left : ℕ) → readEnd made left ≡ started s → (left ≡ 0) × (made ≡ s) × T (wellFormed made)
   unfolding readEnd
   end-accepted made left p =
-      let q = passed (eqb left 0) _ _ (passed (wellFormed made) _ _ p .1) in
-      (eqb-true _ _ (q .0), cc (q .1))
+      let well = passed (wellFormed made) _ _ p in
+      let q = passed (eqb left 0) _ _ (well .1) in
+      (eqb-true _ _ (q .0), cc (q .1), rw (well .0) tt)
+
+  -- what was read so far, written, and the bytes that follow are the record; its state is well formed, and it has at most 290 bytes
+  record Again (bytes : List ℕ) : Type 0 where
+    same : recordBytes s ≡ bytes
+    well : T (wellFormed s)
+    short : length (recordBytes s) ≤ 290
+
+  -- the same of bytes that are equal
+  again-by : (bytes others : List ℕ) → bytes ≡ others → Again bytes → Again others
+  again-by bytes others is a = rw (← is) a
 
   -- after the positions: what is left is the current pixel and the slots
   slots-written-back :
       (header : Header) (wanted at pixel : ℕ) (bytes : List ℕ) → readSlots header wanted at pixel bytes ≡ started s
-      → recordBytes s ≡ headerBytes header ++ (sevenBits wanted ++ (sevenBits at ++ (sevenBits pixel ++ bytes)))
+      → Again (headerBytes header ++ (sevenBits wanted ++ (sevenBits at ++ (sevenBits pixel ++ bytes))))
   unfolding readSlots recordBytes
   slots-written-back header wanted at pixel bytes p =
       let q = failed (ltb (length bytes) 260) _ _ p in
       let end = end-accepted _ _ (q .1) in
       let long = ltb-false (length bytes) 260 (q .0) in
       let size : length bytes ≡ 260 = omega (arith, simp length-drop at (end .0)) in
-      ap recordBytes (sym (end .1)) ∙ rw (slots-back bytes size)
+      let well = rw (end .1) at (end .2) in
+      let pixels : s .place .current .rgba ++ pixelsBytes (s .place .slots) ≡ bytes =
+      ap (λ (t : State). t .place .current .rgba ++ pixelsBytes (t .place .slots)) (sym (end .1)) ∙ slots-back bytes size in
+      record {
+        same = ap recordBytes (sym (end .1)) ∙ rw (slots-back bytes size);
+        well = well;
+        short = sized s well (ap length pixels ∙ size) .1;
+      }
 
   -- a number that is read is written back before what follows it
   number-back :
@@ -85,7 +101,7 @@ module _ (s : State) where
       → withNumber bytes read next ≡ started s → (value : ℕ) × (rest : List ℕ)
       × AllBytes rest × (sevenBits value ++ rest ≡ bytes) × (next value rest ≡ started s)
   unfolding withNumber
-  number-back bytes are (number-read.Refused e) is next p = absurd (refused-is-not-started e p)
+  number-back bytes are (number-read.Refused e) is next p = absurd (refused-is-no-start p)
   number-back bytes are (number-read.Number value used) is next p =
       let back : sevenBits value ++ drop used bytes ≡ bytes =
       rw (read-written-back bytes value used are is) (take-append-drop used bytes) in
@@ -95,9 +111,9 @@ module _ (s : State) where
   positions-written-back :
       (header : Header) (wanted : ℕ) (bytes : List ℕ) → AllBytes bytes
       → (read : ChannelsRead) → channelsFrom wanted ≡ read → readPositions header read bytes ≡ started s
-      → recordBytes s ≡ headerBytes header ++ (sevenBits wanted ++ bytes)
+      → Again (headerBytes header ++ (sevenBits wanted ++ bytes))
   unfolding readPositions
-  positions-written-back header wanted bytes are (channels-read.Refused e) is p = absurd (refused-is-not-started e p)
+  positions-written-back header wanted bytes are (channels-read.Refused e) is p = absurd (refused-is-no-start p)
   positions-written-back header wanted bytes are (channels-read.Ok channels) is p =
       let (at, rest, rest-are, at-back, q) = number-back bytes are (readNumber bytes) refl _ p in
       let (pixel, slots, slots-are, pixel-back, r) = number-back rest rest-are (readNumber rest) refl _ q in
@@ -106,17 +122,30 @@ module _ (s : State) where
   -- after the header: wanted is written back
   wanted-written-back :
       (bytes : List ℕ) → AllBytes bytes → (read : HeaderRead) → headerOf bytes ≡ read
-      → readWanted read (drop 14 bytes) ≡ started s → recordBytes s ≡ bytes
+      → readWanted read (drop 14 bytes) ≡ started s → Again bytes
   unfolding readWanted
-  wanted-written-back bytes are (header-read.Refused e) is p = absurd (refused-is-not-started e p)
+  wanted-written-back bytes are (header-read.Refused e) is p = absurd (refused-is-no-start p)
   wanted-written-back bytes are (header-read.Ok header) is p =
       let after = dropped-bytes 14 bytes are in
       let (wanted, rest, rest-are, wanted-back, q) = number-back (drop 14 bytes) after _ refl _ p in
-      let from-header = positions-written-back header wanted rest rest-are (channelsFrom wanted) refl q in
-      rw (from-header, wanted-back, header-written-back bytes are header is) (take-append-drop 14 bytes)
+      again-by _ bytes
+      (rw (wanted-back, header-written-back bytes are header is) (take-append-drop 14 bytes))
+      (positions-written-back header wanted rest rest-are (channelsFrom wanted) refl q)
 
--- reading a record that is accepted and writing it again gives the same bytes
-pub record-written-back :
-    (bytes : List ℕ) → AllBytes bytes → (s : State) → readRecord bytes ≡ started s → recordBytes s ≡ bytes
-unfolding readRecord
-record-written-back bytes are s p = wanted-written-back s bytes are (headerOf bytes) refl p
+-- a record that is accepted
+module _ (bytes : List ℕ) (are : AllBytes bytes) (s : State) (p : readRecord bytes ≡ started s) where
+  read-so : Again s bytes
+  unfolding readRecord
+  read-so = wanted-written-back s bytes are (headerOf bytes) refl p
+
+  -- is written again as the same bytes
+  pub record-written-back : recordBytes s ≡ bytes
+  record-written-back = read-so .same
+
+  -- has a well-formed state
+  pub record-well-formed : T (wellFormed s)
+  record-well-formed = read-so .well
+
+  -- and at most 290 bytes
+  pub record-short : length bytes ≤ 290
+  record-short = rw record-written-back at (read-so .short)

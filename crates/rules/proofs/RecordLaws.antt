@@ -9,6 +9,7 @@ use borrow.Author.Tests.{eqb-true, le-ltb}
 use lib.Dec.{T, eqb, leb→le}
 use lib.ListN.{length, getD, drop, length-append, length-drop}
 use lib.Seq.{drop-at}
+use Rattle.pixel.specs.declared.error.Error.{Error}
 use Rattle.pixel.specs.declared.Pixel.{Pixel}
 use Rattle.pixel.specs.declared.types.ChannelsRead.the-variants as channels-read
 use Rattle.pixel.specs.declared.types.Channels.{Channels}
@@ -20,7 +21,7 @@ use Rattle.header.specs.Header.{headerBytes, pixelCount}
 use Rattle.number.proofs.Laws.{read-written, rest-after-written, length-at-least-one, length-at-most-ten, length-one, length-at-most-five}
 use Rattle.header.proofs.Laws.{is-true, both, pixels-small, header-read-back, header-length}
 use Rattle.rules.specs.Encode.{pixelFrom, pixelsFrom}
-use Rattle.rules.specs.Step.{State, Typed, headerPasses, wantedPasses, atPasses, pixelPasses, alphaPasses, wellFormed, started}
+use Rattle.rules.specs.Step.{State, Typed, headerPasses, wantedPasses, atPasses, pixelPasses, alphaPasses, wellFormed, started, notStarted}
 use Rattle.rules.specs.Record.{pixelsBytes, recordBytes, withNumber, readEnd, readSlots, readPositions, readWanted, readRecord}
 
 -- a list of four is read back as a pixel, whatever follows
@@ -107,7 +108,11 @@ wanted-few s well =
     let count = wanted-channels (s .wanted) (formed s well .wanted-passes) in
     omega (arith, count .2, channels-small (count .0))
 
-module _ (s : State) (typed : Typed s) (well : T (wellFormed s)) where
+-- a refusal is no start
+pub refused-is-no-start : {e : Error} {s : State} → notStarted e ≡ started s → ⊥
+refused-is-no-start p = let z : _≡_ {A = ℕ} 0 1 = cc in omega arith
+
+module _ (s : State) (well : T (wellFormed s)) where
   -- the pixel position takes five bytes at most
   pixel-small : s .place .pixel < 2 ^ 35
   pixel-small =
@@ -118,6 +123,16 @@ module _ (s : State) (typed : Typed s) (well : T (wellFormed s)) where
   wanted-small : s .wanted < 128
   wanted-small = omega (arith, wanted-few s well)
 
+  -- a record with 260 bytes of pixels is 277 to 290 bytes
+  pub sized :
+      length (s .place .current .rgba ++ pixelsBytes (s .place .slots)) ≡ 260
+      → (277 ≤ length (recordBytes s)) × (length (recordBytes s) ≤ 290)
+  unfolding recordBytes
+  sized whole =
+      simp (length-append, header-length (s .header))
+      (omega (arith, simp length-append at whole, length-one (s .wanted) wanted-small, length-at-least-one (s .place .at), length-at-most-ten (s .place .at), length-at-least-one (s .place .pixel), length-at-most-five (s .place .pixel) pixel-small))
+
+module _ (s : State) (typed : Typed s) (well : T (wellFormed s)) where
   -- each slot has four bytes
   fours : Fours (s .place .slots)
   fours i h = typed .slot-is i (omega (arith, typed .slots-are))
@@ -152,7 +167,7 @@ module _ (s : State) (typed : Typed s) (well : T (wellFormed s)) where
       (sevenBits (s .place .at) ++ (sevenBits (s .place .pixel) ++ (s .place .current .rgba ++ pixelsBytes (s .place .slots)))) ≡ started s
   unfolding readPositions withNumber
   positions-read c same =
-      rw (read-written (s .place .at) _ (typed .at-fits), rest-after-written (s .place .at), read-written (s .place .pixel) _ (omega (arith, pixel-small)), rest-after-written (s .place .pixel), same)
+      rw (read-written (s .place .at) _ (typed .at-fits), rest-after-written (s .place .at), read-written (s .place .pixel) _ (omega (arith, pixel-small s well)), rest-after-written (s .place .pixel), same)
       slots-read
 
   -- reading a written record gives the same state
@@ -160,12 +175,9 @@ module _ (s : State) (typed : Typed s) (well : T (wellFormed s)) where
   unfolding readRecord recordBytes readWanted withNumber
   record-read-back =
       let count = wanted-channels (s .wanted) (formed s well .wanted-passes) in
-      rw (header-read-back (s .header) _ (typed .width-fits) (typed .height-fits) (formed s well .header-passes), drop-at (headerBytes (s .header)) _ 14 (header-length (s .header)), read-written (s .wanted) _ (omega (arith, wanted-small)), rest-after-written (s .wanted), count .1)
+      rw (header-read-back (s .header) _ (typed .width-fits) (typed .height-fits) (formed s well .header-passes), drop-at (headerBytes (s .header)) _ 14 (header-length (s .header)), read-written (s .wanted) _ (omega (arith, wanted-small s well)), rest-after-written (s .wanted), count .1)
       (positions-read (count .0) (count .2))
 
   -- a record is 277 to 290 bytes
   pub record-length : (277 ≤ length (recordBytes s)) × (length (recordBytes s) ≤ 290)
-  unfolding recordBytes
-  record-length =
-      simp (length-append, header-length (s .header))
-      (omega (arith, simp length-append at slots-length, length-one (s .wanted) wanted-small, length-at-least-one (s .place .at), length-at-most-ten (s .place .at), length-at-least-one (s .place .pixel), length-at-most-five (s .place .pixel) pixel-small))
+  record-length = sized s well slots-length

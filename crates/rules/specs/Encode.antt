@@ -1,7 +1,7 @@
 -- The encoder's rules: the chunks that it chooses, how they are written, the stream of a picture, and the order of the refusals.
 use mathlib.Core.Bool.{Bool, true, false, cond, _&&_, _||_}
 use mathlib.Core.List.{List, [], _∷_, _++_}
-use Prim.Native.Nat.{ℕ, zero, suc, _+_, _-_, _*_, _/_, _%_, _<_}
+use Prim.Native.Nat.{ℕ, zero, suc, _+_, _-_, _*_, _/_, _%_}
 use lib.Dec.{ltb, eqb}
 use lib.ListN.{length, getD, drop, set, replicate}
 use Rattle.pixel.specs.declared.Pixel.{Pixel}
@@ -131,10 +131,6 @@ pixelFrom channels bytes =
 unfoldable pub pixelsFrom : ℕ → ℕ → List ℕ → List Pixel
 pixelsFrom zero channels bytes = []
 pixelsFrom (suc n) channels bytes = pixelFrom channels bytes ∷ pixelsFrom n channels (drop channels bytes)
-
--- every number of a picture is a byte
-abbrev pub AllBytes : List ℕ → Type 0
-AllBytes picture = (i : ℕ) → i < length picture → getD picture i 0 < 256
 
 -- the chunks of a picture
 unfoldable pub chunksOf : Header → List ℕ → List Chunk
