@@ -2,13 +2,16 @@
 use Rattle.decode.specs.declared.Decoded.{Decoded}
 use Rattle.decode.specs.declared.Decoded.the-variants.{Done, Refused}
 use mathlib.Core.List.{List, []}
-use Prim.Native.Nat.{ℕ, min}
+use mathlib.Core.Path.{_≡_}
+use Prim.Native.Nat.{ℕ, _+_, min}
+use lib.ListN.{length}
+use denote.Ref.{RefT, ptr, now}
 use Rattle.pixel.specs.Types.{channelsNumber}
 use Rattle.header.specs.declared.Header.{Header}
 use Rattle.header.specs.declared.HeaderRead.{HeaderRead}
 use Rattle.header.specs.declared.HeaderRead.the-variants as header-read
 use Rattle.rules.specs.Reading.{Answer, done, refused}
-use Rattle.rules.specs.Decode.{decoding}
+use Rattle.rules.specs.Decode.{decoding, restOf}
 
 -- bytes written and message bytes used, or a refusal
 abbrev pub answerOf : Decoded → Answer
@@ -35,3 +38,9 @@ bufBytes message room (header-read.Ok header) = decoding message (channelsNumber
 abbrev pub restAt : ℕ → Answer → ℕ
 restAt size (done written used) = min used size
 restAt size (refused e) = size
+
+-- a part is the rest of a message after an answer: what it holds, and where in the message it lies
+abbrev pub IsRest : RefT (List ℕ) → Answer → RefT (List ℕ) → Type 0
+IsRest message answer part =
+    (now part ≡ restOf (now message) answer)
+    × (ptr part ≡ (ptr message .0, restAt (length (now message)) answer + ptr message .1))

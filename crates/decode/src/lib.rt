@@ -1,10 +1,8 @@
 // The whole decode of a message into a lent output, and the rest of a message after it.
 ghost use mathlib.Core.Path.{_≡_};
-ghost use denote.Ref.{ptr};
 ghost use lib.ListN.{length};
-ghost use Prim.Native.Nat.{_+_};
-ghost use Rattle.rules.specs.Decode.{decoding, writtenOver, restOf};
-ghost use Rattle.decode.specs.Decoded.{answerOf, bufAnswer, bufBytes, restAt};
+ghost use Rattle.rules.specs.Decode.{decoding, writtenOver};
+ghost use Rattle.decode.specs.Decoded.{answerOf, bufAnswer, bufBytes, IsRest};
 ghost use Rattle.header.specs.Header.{headerOf};
 use header::Header;
 use header::HeaderRead;
@@ -63,7 +61,7 @@ pub fn decode_to_buf(out: &mut [u8], message: &[u8]) -> HeaderRead
 
 // What follows the bytes that an answer says were used; the empty part at the message's end after a refusal, and where it says more than there are.
 pub fn rest(message: &[u8], decoded: Decoded) -> &[u8]
-    ensures { λ r. ⌜ (now r ≡ restOf (now (message .entry)) (answerOf decoded)) × (ptr r ≡ (ptr (message .entry) .0, restAt (length (now (message .entry))) (answerOf decoded) + ptr (message .entry) .1)) ⌝ }
+    ensures { λ r. ⌜ IsRest (message .entry) (answerOf decoded) r ⌝ }
 {
     let end = message.len();
     match decoded {
