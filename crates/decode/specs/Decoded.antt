@@ -39,8 +39,8 @@ abbrev pub restAt : ℕ → Answer → ℕ
 restAt size (done written used) = min used size
 restAt size (refused e) = size
 
--- a part is the rest of a message after an answer: what it holds, and where in the message it lies
+-- a part is the rest of a message after an answer: where in the message it lies, and what it holds
 abbrev pub IsRest : RefT (List ℕ) → Answer → RefT (List ℕ) → Type 0
 IsRest message answer part =
-    (now part ≡ restOf (now message) answer)
-    × (ptr part ≡ (ptr message .0, restAt (length (now message)) answer + ptr message .1))
+    (ptr part ≡ (ptr message .0, restAt (length (now message)) answer + ptr message .1))
+    × (now part ≡ restOf (now message) answer)

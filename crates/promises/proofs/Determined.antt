@@ -248,7 +248,7 @@ pub decode·rest :
     DeterminedBy decode.rest.Kinds.ps decode.rest.Kinds.r (λ κs z z′. (ptr z ≡ ptr z′) × (now z ≡ now z′))
     decode.rest.Reads.Post
 decode·rest κs a z z′ e e′ ok ok′ p q =
-    ((p .1 ∙ sym (q .1), p .0 ∙ sym (q .0)), refl)
+    ((p .0 ∙ sym (q .0), p .1 ∙ sym (q .1)), refl)
 
 -- ---- crate `qoi`, for hosts
 pub qoi·pivotshade-header : Determined qoi.pivotshade_header.Kinds.ps qoi.pivotshade_header.Kinds.r qoi.pivotshade_header.Reads.Post

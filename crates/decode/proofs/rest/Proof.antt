@@ -26,14 +26,14 @@ returns : tie.Need-returns
 unfolding restOf
 returns c =
     let m = c .before .before .before .args .message in
-    rw (c .before .enum-told .given .1) (whole-tail (m .now) _ ∙ drop-length (m .now), refl)
+    rw (c .before .enum-told .given .1) (refl, whole-tail (m .now) _ ∙ drop-length (m .now))
 
 returns-2 : tie.Need-returns-2
 unfolding restOf
 returns-2 c =
     let m = c .before .before .before .before .before .args .message in
     rw (c .before .before .before .decoded .given .1)
-    (whole-tail (m .now) _, starts-there (m .ptr) _ _ (lesser-first _ _ (c .before .if1 .taken)))
+    (starts-there (m .ptr) _ _ (lesser-first _ _ (c .before .if1 .taken)), whole-tail (m .now) _)
 
 returns-3 : tie.Need-returns-3
 unfolding restOf
@@ -41,7 +41,7 @@ returns-3 c =
     let m = c .before .before .before .before .before .args .message in
     let past = le-of-lt (c .before .if1 .left) in
     rw (c .before .before .before .decoded .given .1)
-    (whole-tail (m .now) _ ∙ drop-length (m .now) ∙ sym (drop-of-length-le (m .now) past), starts-there (m .ptr) _ _ (lesser-second _ _ past))
+    (starts-there (m .ptr) _ _ (lesser-second _ _ past), whole-tail (m .now) _ ∙ drop-length (m .now) ∙ sym (drop-of-length-le (m .now) past))
 
 pub rest-spec : {M : Type 1} → statement M
 rest-spec =
