@@ -1,336 +1,564 @@
--- Document 01's pictures and messages on both sides, and its ways to get it wrong: one list, one test, one statement.
-use mathlib.Core.Bool.{Bool, true, false, not, _&&_}
+-- Document 01's pictures and messages, its ways to get it wrong, the ends of its ranges: one list, one statement.
+use mathlib.Core.Bool.{true, false}
 use mathlib.Core.List.{List, [], _∷_, _++_}
-use Prim.Native.Nat.{ℕ, _+_, _*_}
+use Prim.Native.Nat.{ℕ, _*_}
 use lib.Dec.{T}
-use lib.ListN.{length, take, drop, replicate}
-use Rattle.pixel.specs.declared.types.Channels.{Channels}
+use lib.ListN.{take, replicate}
 use Rattle.pixel.specs.declared.types.Channels.the-variants.{Rgb, Rgba}
-use Rattle.pixel.specs.declared.types.ColorSpace.the-variants.{Srgb}
-use Rattle.pixel.specs.Colour.{slotOf, pixelOf, clearPixel}
-use Rattle.pixel.specs.Types.{channelsNumber}
-use Rattle.number.specs.Seven.{sevenBitsOf, sevenBits, groupBelow, readMore, readNumber}
-use Rattle.header.specs.declared.Header.{Header}
-use Rattle.header.specs.Header.{headerBytes, headerFrom, afterColorSpace, afterChannels, headerOf}
-use Rattle.rules.specs.Chunk.{chunkFrom, chunkAt, colourOf, timesOf, sizeOf}
-use Rattle.rules.specs.Reading.{Reading, marker, sameBytes, repeated, closing, startPlace, pixelsBrought, pixelAfter, placeAfter, bytesOf, moveBy, move, reading, readingInto, withWanted, withHeader, wholeReading}
-use Rattle.rules.specs.Decode.{decoderStores, decoderKeeps, decoderReadsRgba, decoding, writtenOver, restOf}
-use Rattle.rules.specs.Trace.{visitsOn, chunkDue, visits, headerTrace, trace}
-use Rattle.rules.specs.Document.{documentReading, namesFilled, filledAfter, filledIn, indexesFilled}
-use Rattle.rules.specs.Encode.{fitsDiff, fitsLuma, diffChunk, lumaChunk, colourChunk, startPen, runEnded, slotHolds, differingChunk, pixelChunks, penAfter, chunksFrom, chunkBytes, chunksBytes, pixelFrom, pixelsFrom, chunksOf, streamOf, encodingInto, withSpace, withCount, withDimensions, encoding}
-use Rattle.rules.specs.Step.{State, wellFormed, Started, started, notStarted, startWanted, startHeader, starting, stepBy, step, Ran, going, ended, running}
-use Rattle.rules.specs.Record.{pixelsBytes, recordBytes, recording, recordedOver, withNumber, readEnd, readSlots, readPositions, readWanted, readRecord}
-use Rattle.rules.specs.Strict.{strictClosed, strictClosing, strictCounted, strictBy, strictMove, strictFrom, strictHeader, strict}
-use Rattle.rules.specs.Figures.{headerFigures, answerFigures, encodeFigures, strictFigures, numberFigures, startFigures, recordFigures, stepFigures}
+use Rattle.rules.specs.Reading.{marker, repeated}
+use Rattle.rules.specs.Record.{recordBytes}
+use Rattle.rules.specs.Case.{Case, streams, encodesInto, decodesInto, documentsInto, opens, checks, traces, fills, starts, stepsOn, counts, countsBack, records, readsBack, takesUp, differ, accepted, refusal, onward, held, rgb, rgba, headed, message, encodes, decodes, documents, reads, leaves, stateAt, startState, stateAfter, holds, allHold}
 
--- a row: what is given, and then what must come
-pub data Case : Type 0 where
-  -- width, height, channels and bytes of a picture: the chunks of its stream, which is read back on both sides
-  encodes : ℕ → ℕ → Channels → List ℕ → List ℕ → Case
-  -- width, height, colour space and bytes of a picture, room: the answer's number and figures
-  encodesInto : ℕ → ℕ → ℕ → List ℕ → ℕ → List ℕ → Case
-  -- width, height and channels, wanted, what follows the header: the answer's number and figures, the bytes written
-  decodes : ℕ → ℕ → Channels → ℕ → List ℕ → List ℕ → List ℕ → Case
-  -- width, height and channels, wanted, room, what follows the header: the answer's number and figures, and the room at exit, which held ee
-  decodesInto : ℕ → ℕ → Channels → ℕ → ℕ → List ℕ → List ℕ → List ℕ → Case
-  -- width, height and channels, wanted, what follows the header: the document's number and figures, the bytes written
-  documents : ℕ → ℕ → Channels → ℕ → List ℕ → List ℕ → List ℕ → Case
-  -- a message, wanted: the number and figures of a start
-  starts : List ℕ → ℕ → List ℕ → Case
-  -- width, height and channels, wanted, byte position, pixel position, the current pixel's alpha, room, what follows the header: the step's number and figures
-  stepsOn : ℕ → ℕ → Channels → ℕ → ℕ → ℕ → ℕ → ℕ → List ℕ → List ℕ → Case
-  -- width, height and channels, wanted, chunks, accepted on both sides: the decoder's bytes, the document's bytes
-  reads : ℕ → ℕ → Channels → ℕ → List ℕ → List ℕ → List ℕ → Case
-  -- width, height and channels, chunks: whether each INDEX names a filled slot
-  fills : ℕ → ℕ → Channels → List ℕ → Bool → Case
-  -- width, height and channels, wanted, what follows the header: the rest of the message
-  leaves : ℕ → ℕ → Channels → ℕ → List ℕ → List ℕ → Case
-  -- width, height and channels, what follows the header: the strict answer's number and figures
-  checks : ℕ → ℕ → Channels → List ℕ → List ℕ → Case
-  -- a message: its header's number and figures
-  opens : List ℕ → List ℕ → Case
-  -- a number: its bytes in a record
-  counts : ℕ → List ℕ → Case
-  -- bytes: the number and figures of the number that they start with
-  countsBack : List ℕ → List ℕ → Case
-  -- width, height and channels, wanted, room: the number and figures of writing the start's record, and the room at exit, which held ee
-  records : ℕ → ℕ → Channels → ℕ → ℕ → List ℕ → List ℕ → Case
-  -- width, height and channels, wanted, how much of the start's record, what then follows: the number and figures of reading it
-  readsBack : ℕ → ℕ → Channels → ℕ → ℕ → List ℕ → List ℕ → Case
-  -- width, height and channels, wanted, chunks, steps before a checkpoint, what the next worker finds from the checkpoint's pixel on: the output at the end
-  takesUp : ℕ → ℕ → Channels → ℕ → List ℕ → ℕ → ℕ → List ℕ → Case
+-- so many black pixels of three channels
+abbrev black : ℕ → List ℕ
+black pixels = replicate (pixels * 3) 0
 
--- a header, sRGB
-abbrev headerWith : ℕ → ℕ → Channels → Header
-headerWith width height channels = record { width = width; height = height; channels = channels; colorspace = Srgb }
+-- A of the table; its slot is 33, hex 21
+abbrev A : List ℕ
+A = rgb 100 0 0
 
--- a message that ends with the marker
-abbrev message : ℕ → ℕ → Channels → List ℕ → List ℕ
-message width height channels chunks = headerBytes (headerWith width height channels) ++ (chunks ++ marker)
+-- B of the table; its slot is 53, hex 35
+abbrev B : List ℕ
+B = black 1
 
--- what a worker leaves that ends
-afterRun : Ran → List ℕ
-afterRun (going s out) = []
-afterRun (ended answer s out) = out
+-- the table's picture A B A A B
+abbrev ABAAB : List ℕ
+ABAAB = A ++ (B ++ (A ++ (A ++ B)))
 
--- a second worker reads the first one's record and goes on; from the checkpoint's pixel on it finds another byte
-resumed : List ℕ → ℕ → List ℕ → ℕ → Started → List ℕ
-resumed m limit out found (notStarted e) = []
-resumed m limit out found (started s) =
-    let kept = s .place .pixel * s .wanted in
-    afterRun (running m limit s (take kept out ++ replicate (length (drop kept out)) found))
+-- its chunks
+abbrev chunksABAAB : List ℕ
+chunksABAAB = 0xfe ∷ 0x64 ∷ 0x00 ∷ 0x00 ∷ 0xfe ∷ 0x00 ∷ 0x00 ∷ 0x00 ∷ 0x21 ∷ 0x21 ∷ 0x35 ∷ []
 
--- a first worker stops after its steps and leaves its record
-checkpointed : List ℕ → ℕ → ℕ → Ran → List ℕ
-checkpointed m limit found (going s out) = resumed m limit out found (readRecord (recordBytes s))
-checkpointed m limit found (ended answer s out) = []
+-- a header byte by byte: width and height below 256, channels, colour space
+abbrev fourteen : ℕ → ℕ → ℕ → ℕ → List ℕ
+fourteen width height channels colorspace =
+    0x71 ∷ 0x6f ∷ 0x69 ∷ 0x66 ∷ 0 ∷ 0 ∷ 0 ∷ width ∷ 0 ∷ 0 ∷ 0 ∷ height ∷ channels ∷ colorspace ∷ []
 
--- a first worker starts on an output of zeros
-begun : List ℕ → ℕ → ℕ → ℕ → ℕ → Started → List ℕ
-begun m steps limit size found (notStarted e) = []
-begun m steps limit size found (started s) = checkpointed m limit found (running m steps s (replicate size 0))
+-- the stream of a black pixel of three channels byte by byte, in this colour space
+abbrev blackStream : ℕ → List ℕ
+blackStream colorspace = fourteen 1 1 3 colorspace ++ (0xc0 ∷ 0 ∷ 0 ∷ 0 ∷ 0 ∷ 0 ∷ 0 ∷ 0 ∷ 1 ∷ [])
 
--- the state at the start of a picture
-abbrev startState : ℕ → ℕ → Channels → ℕ → State
-startState width height channels wanted =
-    record { header = headerWith width height channels; wanted = wanted; place = startPlace }
+-- fourteen bytes with a wrong magic, width 0 and height 0
+abbrev wrongMagic : ℕ → ℕ → List ℕ
+wrongMagic channels colorspace = replicate 12 0 ++ (channels ∷ colorspace ∷ [])
 
--- whether two tests answer the same
-sameTest : Bool → Bool → Bool
-sameTest true b = b
-sameTest false b = not b
+-- the record at the start of a 1x1 RGB message, wanted 3
+abbrev startRecord : List ℕ
+startRecord = recordBytes (startState 1 1 Rgb 3)
 
--- whether a reading uses a whole message and writes these bytes
-abbrev readsAll : List ℕ → ℕ → List ℕ → Reading → Bool
-readsAll m room bytes r =
-    sameBytes (answerFigures (r .answer)) (0 ∷ room ∷ length m ∷ 0 ∷ 0 ∷ []) && sameBytes (r .bytes) bytes
+-- the slots that hold A in slot 33 and B in slot 53: 33, 19 and 10 empty ones stand before, between and after
+abbrev slotsOfAB : List ℕ
+slotsOfAB = replicate 132 0 ++ (rgba 100 0 0 255 ++ (replicate 76 0 ++ (rgba 0 0 0 255 ++ replicate 40 0)))
 
--- whether the decoder's reading of a message and the document's write these bytes
-abbrev readBoth : List ℕ → ℕ → ℕ → List ℕ → List ℕ → Bool
-readBoth m wanted room bytes documentBytes =
-    readsAll m room bytes (decoding m wanted room) && readsAll m room documentBytes (documentReading m wanted room)
-
--- whether a case holds of the definitions
-pub holds : Case → Bool
-unfolding sameTest afterRun resumed checkpointed begun slotOf sevenBitsOf sevenBits groupBelow readMore readNumber headerBytes headerFrom afterColorSpace afterChannels headerOf chunkFrom chunkAt colourOf timesOf sizeOf sameBytes repeated closing startPlace pixelsBrought pixelAfter placeAfter bytesOf moveBy move reading readingInto withWanted withHeader wholeReading decoderStores decoderKeeps decoderReadsRgba fitsDiff fitsLuma diffChunk lumaChunk colourChunk startPen runEnded slotHolds differingChunk pixelChunks penAfter chunksFrom chunkBytes chunksBytes pixelFrom pixelsFrom chunksOf streamOf encodingInto withSpace withCount withDimensions encoding wellFormed startWanted startHeader starting stepBy step running pixelsBytes recordBytes recording recordedOver restOf withNumber readEnd readSlots readPositions readWanted readRecord strictClosed strictClosing strictCounted strictBy strictMove strictFrom strictHeader strict namesFilled filledAfter chunkDue indexesFilled visitsOn visits headerTrace trace filledIn
-holds (encodes width height channels picture chunks) =
-    let m = message width height channels chunks in
-    sameBytes (encoding picture width height 0 1000000 .bytes) m
-    && readBoth m (channelsNumber channels) (length picture) picture picture
-holds (decodesInto width height channels wanted room body figures out) =
-    let r = decoding (headerBytes (headerWith width height channels) ++ body) wanted room in
-    sameBytes (answerFigures (r .answer)) figures && sameBytes (writtenOver (r .bytes) (replicate room 0xee)) out
-holds (documents width height channels wanted body figures bytes) =
-    let r = documentReading (headerBytes (headerWith width height channels) ++ body) wanted (width * height * wanted) in
-    sameBytes (answerFigures (r .answer)) figures && sameBytes (r .bytes) bytes
-holds (starts m wanted figures) = sameBytes (startFigures (starting m wanted)) figures
-holds (stepsOn width height channels wanted at pixel opacity room body figures) =
-    sameBytes
-    (stepFigures
-    (step
-    (record { header = headerWith width height channels; wanted = wanted; place = record { at = at; pixel = pixel; current = pixelOf 0 0 0 opacity; slots = replicate 64 clearPixel } })
-    (headerBytes (headerWith width height channels) ++ body) room)) figures
-holds (encodesInto width height colorspace picture room figures) =
-    sameBytes (encodeFigures (encoding picture width height colorspace room .answer)) figures
-holds (decodes width height channels wanted body figures bytes) =
-    let r = decoding (headerBytes (headerWith width height channels) ++ body) wanted (width * height * wanted) in
-    sameBytes (answerFigures (r .answer)) figures && sameBytes (r .bytes) bytes
-holds (reads width height channels wanted chunks bytes documentBytes) =
-    readBoth (message width height channels chunks) wanted (width * height * wanted) bytes documentBytes
-holds (fills width height channels chunks each) =
-    sameTest (indexesFilled (message width height channels chunks)) each
-holds (leaves width height channels wanted body rest) =
-    let m = headerBytes (headerWith width height channels) ++ body in
-    sameBytes (restOf m (decoding m wanted (width * height * wanted) .answer)) rest
-holds (checks width height channels body figures) =
-    sameBytes (strictFigures (strict (headerBytes (headerWith width height channels) ++ body))) figures
-holds (opens m figures) = sameBytes (headerFigures (headerOf m)) figures
-holds (counts n bytes) =
-    sameBytes (sevenBits n) bytes && sameBytes (numberFigures (readNumber bytes)) (0 ∷ n ∷ length bytes ∷ 0 ∷ 0 ∷ [])
-holds (countsBack bytes figures) = sameBytes (numberFigures (readNumber bytes)) figures
-holds (records width height channels wanted room figures out) =
-    let s = startState width height channels wanted in
-    sameBytes (recordFigures (recording s room)) figures && sameBytes (recordedOver s (replicate room 0xee)) out
-holds (readsBack width height channels wanted most following figures) =
-    sameBytes (startFigures (readRecord (take most (recordBytes (startState width height channels wanted)) ++ following))) figures
-holds (takesUp width height channels wanted chunks steps found out) =
-    let m = message width height channels chunks in
-    sameBytes (begun m steps (width * height + 1) (width * height * wanted) found (starting m wanted)) out
-
--- the test holds of each case of a list
-pub allHold : List Case → Bool
-allHold [] = true
-allHold (c ∷ cs) = holds c && allHold cs
+-- the largest number of a record, 2^64-1
+abbrev largest : ℕ
+largest = 18446744073709551615
 
 -- rows marked P, in the table's order
 proved : List Case
 proved =
-    encodes 1 1 Rgb (0 ∷ 0 ∷ 0 ∷ []) (0xc0 ∷ [])
-    ∷ encodesInto 1 1 0 (0 ∷ 0 ∷ 0 ∷ []) 26 (0 ∷ 23 ∷ 0 ∷ 0 ∷ 0 ∷ [])
-    ∷ encodes 1 1 Rgba (0 ∷ 0 ∷ 0 ∷ 0 ∷ []) (0x00 ∷ [])
-    ∷ encodes 1 1 Rgb (1 ∷ 255 ∷ 0 ∷ []) (0x76 ∷ [])
-    ∷ encodes 1 1 Rgb (10 ∷ 12 ∷ 9 ∷ []) (0xac ∷ 0x65 ∷ [])
-    ∷ encodes 1 1 Rgb (100 ∷ 0 ∷ 0 ∷ []) (0xfe ∷ 0x64 ∷ 0x00 ∷ 0x00 ∷ [])
-    ∷ encodes 1 1 Rgba (0 ∷ 0 ∷ 0 ∷ 128 ∷ []) (0xff ∷ 0x00 ∷ 0x00 ∷ 0x00 ∷ 0x80 ∷ [])
-    ∷ encodes 63 1 Rgb (replicate 189 0) (0xfd ∷ 0xc0 ∷ [])
-    ∷ encodes 62 1 Rgb (replicate 186 0) (0xfd ∷ [])
-    ∷ encodes 5 1 Rgb (100 ∷ 0 ∷ 0 ∷ 0 ∷ 0 ∷ 0 ∷ 100 ∷ 0 ∷ 0 ∷ 100 ∷ 0 ∷ 0 ∷ 0 ∷ 0 ∷ 0 ∷ [])
-    (0xfe ∷ 0x64 ∷ 0x00 ∷ 0x00 ∷ 0xfe ∷ 0x00 ∷ 0x00 ∷ 0x00 ∷ 0x21 ∷ 0x21 ∷ 0x35 ∷ [])
-    ∷ reads 2 1 Rgba 4 (0xc0 ∷ 0x35 ∷ []) (0 ∷ 0 ∷ 0 ∷ 255 ∷ 0 ∷ 0 ∷ 0 ∷ 0 ∷ []) (0 ∷ 0 ∷ 0 ∷ 255 ∷ 0 ∷ 0 ∷ 0 ∷ 255 ∷ [])
-    ∷ reads 3 1 Rgba 3
-    (0xff ∷ 0x0a ∷ 0x00 ∷ 0x00 ∷ 0x80 ∷ 0xff ∷ 0x00 ∷ 0x00 ∷ 0x00 ∷ 0xff ∷ 0x1e ∷ [])
-    (10 ∷ 0 ∷ 0 ∷ 0 ∷ 0 ∷ 0 ∷ 0 ∷ 0 ∷ 0 ∷ [])
-    (10 ∷ 0 ∷ 0 ∷ 0 ∷ 0 ∷ 0 ∷ 10 ∷ 0 ∷ 0 ∷ [])
-    ∷ decodes 1 1 Rgb 4 (0x05 ∷ marker) (0 ∷ 4 ∷ 23 ∷ 0 ∷ 0 ∷ []) (0 ∷ 0 ∷ 0 ∷ 0 ∷ [])
+    -- 1x1 RGB (0,0,0): c0
+    encodes 1 1 Rgb (rgb 0 0 0) (0xc0 ∷ [])
+    -- the same: 23 bytes in all
+    ∷ encodesInto 1 1 0 (rgb 0 0 0) 26 (accepted (23 ∷ []))
+    -- 1x1 RGBA (0,0,0,0): 00
+    ∷ encodes 1 1 Rgba (rgba 0 0 0 0) (0x00 ∷ [])
+    -- 1x1 RGB (1,255,0): 76
+    ∷ encodes 1 1 Rgb (rgb 1 255 0) (0x76 ∷ [])
+    -- 1x1 RGB (10,12,9): ac 65
+    ∷ encodes 1 1 Rgb (rgb 10 12 9) (0xac ∷ 0x65 ∷ [])
+    -- 1x1 RGB (100,0,0): fe 64 00 00
+    ∷ encodes 1 1 Rgb (rgb 100 0 0) (0xfe ∷ 0x64 ∷ 0x00 ∷ 0x00 ∷ [])
+    -- 1x1 RGBA (0,0,0,128): ff 00 00 00 80
+    ∷ encodes 1 1 Rgba (rgba 0 0 0 128) (0xff ∷ 0x00 ∷ 0x00 ∷ 0x00 ∷ 0x80 ∷ [])
+    -- 63x1 black RGB: fd c0
+    ∷ encodes 63 1 Rgb (black 63) (0xfd ∷ 0xc0 ∷ [])
+    -- at 62x1: fd
+    ∷ encodes 62 1 Rgb (black 62) (0xfd ∷ [])
+    -- 5x1 RGB, A B A A B: fe 64 00 00 fe 00 00 00 21 21 35
+    ∷ encodes 5 1 Rgb ABAAB chunksABAAB
+    -- decode 2x1 RGBA, c0 35: (0,0,0,255), (0,0,0,0); document: black opaque twice
+    ∷ reads 2 1 Rgba 4 (0xc0 ∷ 0x35 ∷ []) (rgba 0 0 0 255 ++ rgba 0 0 0 0) (rgba 0 0 0 255 ++ rgba 0 0 0 255)
+    -- decode 3x1 RGBA to 3, ff 0a 00 00 80 ff 00 00 00 ff 1e: third pixel (0,0,0); document (10,0,0)
+    ∷ reads 3 1 Rgba 3 (0xff ∷ 0x0a ∷ 0x00 ∷ 0x00 ∷ 0x80 ∷ 0xff ∷ 0x00 ∷ 0x00 ∷ 0x00 ∷ 0xff ∷ 0x1e ∷ [])
+    (rgb 10 0 0 ++ (rgb 0 0 0 ++ rgb 0 0 0)) (rgb 10 0 0 ++ (rgb 0 0 0 ++ rgb 10 0 0))
+    -- decode 1x1 RGB to 4, 05: (0,0,0,0)
+    ∷ decodes 1 1 Rgb 4 (0x05 ∷ marker) (accepted (4 ∷ 23 ∷ [])) (rgba 0 0 0 0)
+    -- the number 300 in a record: ac 02
     ∷ counts 300 (0xac ∷ 0x02 ∷ [])
     ∷ []
 
 -- the table's other rows
 compared : List Case
 compared =
-    decodes 1 1 Rgb 3 (0xff ∷ 0 ∷ 0 ∷ 0 ∷ 0 ∷ 0 ∷ 0 ∷ 0 ∷ []) (8 ∷ 0 ∷ 0 ∷ 0 ∷ 0 ∷ []) (0 ∷ 0 ∷ 0 ∷ [])
-    ∷ decodes 1 1 Rgb 3 (0xff ∷ 0 ∷ 0 ∷ 0 ∷ 0 ∷ 0 ∷ 0 ∷ []) (1 ∷ 0 ∷ 0 ∷ 0 ∷ 0 ∷ []) []
-    ∷ decodes 1 1 Rgb 3 (0xfd ∷ marker) (0 ∷ 3 ∷ 23 ∷ 0 ∷ 0 ∷ []) (0 ∷ 0 ∷ 0 ∷ [])
-    ∷ checks 1 1 Rgb (0xfd ∷ marker) (10 ∷ 0 ∷ 0 ∷ 0 ∷ 0 ∷ [])
-    ∷ opens (headerBytes (headerWith 20000 20000 Rgb)) (0 ∷ 20000 ∷ 20000 ∷ 3 ∷ 0 ∷ [])
-    ∷ opens (headerBytes (headerWith 20000 20001 Rgb)) (5 ∷ 20000 ∷ 20001 ∷ 0 ∷ 0 ∷ [])
-    ∷ encodesInto 1 1 0 (7 ∷ 7 ∷ 7 ∷ []) 25 (7 ∷ 25 ∷ 26 ∷ 0 ∷ 0 ∷ [])
-    ∷ encodesInto 2 1 0 (0 ∷ 0 ∷ 0 ∷ 0 ∷ 0 ∷ 0 ∷ 0 ∷ []) 100 (6 ∷ 7 ∷ 2 ∷ 1 ∷ 0 ∷ [])
-    ∷ encodesInto 1 1 0 [] 100 (2 ∷ 0 ∷ 0 ∷ 0 ∷ 0 ∷ [])
-    ∷ encodesInto 1 1 0 (0 ∷ 0 ∷ 0 ∷ 0 ∷ 0 ∷ []) 100 (2 ∷ 5 ∷ 0 ∷ 0 ∷ 0 ∷ [])
-    ∷ opens (0 ∷ 0 ∷ 0 ∷ 0 ∷ 0 ∷ 0 ∷ 0 ∷ 1 ∷ 0 ∷ 0 ∷ 0 ∷ 1 ∷ 5 ∷ 0 ∷ []) (2 ∷ 5 ∷ 0 ∷ 0 ∷ 0 ∷ [])
-    ∷ opens (0 ∷ 0 ∷ 0 ∷ 0 ∷ 0 ∷ 0 ∷ 0 ∷ 0 ∷ 0 ∷ 0 ∷ 0 ∷ 1 ∷ 3 ∷ 0 ∷ []) (4 ∷ 0 ∷ 0 ∷ 0 ∷ 0 ∷ [])
-    ∷ checks 5 1 Rgb
-    (0xfe ∷ 0x64 ∷ 0x00 ∷ 0x00 ∷ 0xfe ∷ 0x00 ∷ 0x00 ∷ 0x00 ∷ 0x21 ∷ 0x21 ∷ 0x35 ∷ marker)
-    (0 ∷ 5 ∷ 33 ∷ 0 ∷ 0 ∷ [])
+    -- decode 1x1 RGB, ff and seven 00: 8, pixel black
+    decodes 1 1 Rgb 3 (0xff ∷ replicate 7 0) (refusal 8 []) (rgb 0 0 0)
+    -- ff and six 00: 1, untouched
+    ∷ decodes 1 1 Rgb 3 (0xff ∷ replicate 6 0) (refusal 1 []) (held 3)
+    -- decode 1x1, fd: accepted
+    ∷ decodes 1 1 Rgb 3 (0xfd ∷ marker) (accepted (3 ∷ 23 ∷ [])) (rgb 0 0 0)
+    -- the same: strict 10
+    ∷ checks (message 1 1 Rgb (0xfd ∷ [])) (refusal 10 [])
+    -- 20000x20000: accepted
+    ∷ opens (headed 20000 20000 Rgb []) (accepted (20000 ∷ 20000 ∷ 3 ∷ 0 ∷ []))
+    -- 20000x20001: 5
+    ∷ opens (headed 20000 20001 Rgb []) (refusal 5 (20000 ∷ 20001 ∷ []))
+    -- 1x1 RGB into 26 bytes: encoded
+    ∷ encodesInto 1 1 0 (rgb 7 7 7) 26 (accepted (24 ∷ []))
+    -- into 25 bytes: 7 {25, 26}
+    ∷ encodesInto 1 1 0 (rgb 7 7 7) 25 (refusal 7 (25 ∷ 26 ∷ []))
+    -- 2x1, 7 data bytes: 6
+    ∷ encodesInto 2 1 0 (replicate 7 0) 100 (refusal 6 (7 ∷ 2 ∷ 1 ∷ []))
+    -- 1x1, none: 2 {0}
+    ∷ encodesInto 1 1 0 [] 100 (refusal 2 (0 ∷ []))
+    -- 1x1, 5: 2 {5}
+    ∷ encodesInto 1 1 0 (replicate 5 0) 100 (refusal 2 (5 ∷ []))
+    -- channels 5, wrong magic: 2
+    ∷ opens (wrongMagic 5 0) (refusal 2 (5 ∷ []))
+    -- wrong magic, width 0: 4
+    ∷ opens (wrongMagic 3 0) (refusal 4 (0 ∷ []))
+    -- the program's line for the 33 bytes of A B A A B: ok 5 1 3 0 5 33
+    ∷ checks (message 5 1 Rgb chunksABAAB) (accepted (5 ∷ 1 ∷ 3 ∷ 0 ∷ 5 ∷ 33 ∷ []))
+    -- its line for empty input: refused 1
+    ∷ checks [] (refusal 1 [])
     ∷ []
 
 -- ways to get it wrong, where no row above shows them
 mistaken : List Case
 mistaken =
+    -- storing after INDEX: the decoder must end in (0,0,0,128); the document, which stores, in (0,0,0,0)
     reads 3 1 Rgba 4 (0xff ∷ 0x00 ∷ 0x00 ∷ 0x00 ∷ 0x80 ∷ 0x05 ∷ 0x00 ∷ [])
-    (0 ∷ 0 ∷ 0 ∷ 128 ∷ 0 ∷ 0 ∷ 0 ∷ 0 ∷ 0 ∷ 0 ∷ 0 ∷ 128 ∷ [])
-    (0 ∷ 0 ∷ 0 ∷ 128 ∷ 0 ∷ 0 ∷ 0 ∷ 0 ∷ 0 ∷ 0 ∷ 0 ∷ 0 ∷ [])
-    ∷ encodes 2 1 Rgb (0 ∷ 0 ∷ 0 ∷ 100 ∷ 0 ∷ 0 ∷ []) (0xc0 ∷ 0xfe ∷ 0x64 ∷ 0x00 ∷ 0x00 ∷ [])
-    ∷ decodes 2 1 Rgb 3 (0xff ∷ 1 ∷ 2 ∷ 3 ∷ 4 ∷ 0xc0 ∷ marker) (8 ∷ 0 ∷ 0 ∷ 0 ∷ 0 ∷ []) (0 ∷ 0 ∷ 0 ∷ 0 ∷ 0 ∷ 0 ∷ [])
-    ∷ checks 2 1 Rgb (0xff ∷ 1 ∷ 2 ∷ 3 ∷ 4 ∷ 0xc0 ∷ marker) (8 ∷ 0 ∷ 0 ∷ 0 ∷ 0 ∷ [])
-    ∷ decodes 4 1 Rgb 4 (0x05 ∷ 0x7a ∷ 0xfe ∷ 9 ∷ 9 ∷ 9 ∷ 0x03 ∷ marker) (0 ∷ 16 ∷ 29 ∷ 0 ∷ 0 ∷ [])
-    (0 ∷ 0 ∷ 0 ∷ 0 ∷ 1 ∷ 0 ∷ 0 ∷ 0 ∷ 9 ∷ 9 ∷ 9 ∷ 0 ∷ 1 ∷ 0 ∷ 0 ∷ 0 ∷ [])
-    ∷ takesUp 5 1 Rgb 3 (0xfe ∷ 0x64 ∷ 0x00 ∷ 0x00 ∷ 0xfe ∷ 0x00 ∷ 0x00 ∷ 0x00 ∷ 0x21 ∷ 0x21 ∷ 0x35 ∷ []) 2 0xee
-    (100 ∷ 0 ∷ 0 ∷ 0 ∷ 0 ∷ 0 ∷ 100 ∷ 0 ∷ 0 ∷ 100 ∷ 0 ∷ 0 ∷ 0 ∷ 0 ∷ 0 ∷ [])
+    (rgba 0 0 0 128 ++ (rgba 0 0 0 0 ++ rgba 0 0 0 128)) (rgba 0 0 0 128 ++ (rgba 0 0 0 0 ++ rgba 0 0 0 0))
+    -- a first pixel that is black, then a run of 1 written as INDEX 53: it must be RUN
+    ∷ encodes 2 1 Rgb (B ++ A) (0xc0 ∷ 0xfe ∷ 0x64 ∷ 0x00 ∷ 0x00 ∷ [])
+    -- consuming ff in a 3-channel source: both pixels are the previous one, and the marker test fails
+    ∷ decodes 2 1 Rgb 3 (0xff ∷ 1 ∷ 2 ∷ 3 ∷ 4 ∷ 0xc0 ∷ marker) (refusal 8 []) (black 2)
+    -- strict answers 8 at once
+    ∷ checks (message 2 1 Rgb (0xff ∷ 1 ∷ 2 ∷ 3 ∷ 4 ∷ 0xc0 ∷ [])) (refusal 8 [])
+    -- finding the slot with real alpha, at wanted 4: INDEX brings alpha 0, so (1,0,0,0) is in slot 3
+    ∷ decodes 4 1 Rgb 4 (0x05 ∷ 0x7a ∷ 0xfe ∷ 9 ∷ 9 ∷ 9 ∷ 0x03 ∷ marker) (accepted (16 ∷ 29 ∷ []))
+    (rgba 0 0 0 0 ++ (rgba 1 0 0 0 ++ (rgba 9 9 9 0 ++ rgba 1 0 0 0)))
+    -- a take-up that clears the output, or trusts bytes at the checkpoint's pixel
+    ∷ takesUp (message 5 1 Rgb chunksABAAB) 3 15 2 0xee ABAAB
     ∷ []
 
--- what the notes on the Rust add: runs, the first slot, numbers that are not shortest or too large, bytes after the marker
-noted : List Case
-noted =
-    encodes 64 1 Rgb (100 ∷ 0 ∷ 0 ∷ replicate 189 0) (0xfe ∷ 0x64 ∷ 0x00 ∷ 0x00 ∷ 0xfe ∷ 0x00 ∷ 0x00 ∷ 0x00 ∷ 0xfd ∷ [])
-    ∷ encodes 3 1 Rgba (0 ∷ 0 ∷ 0 ∷ 0 ∷ 0 ∷ 0 ∷ 0 ∷ 0 ∷ 9 ∷ 0 ∷ 0 ∷ 9 ∷ []) (0x00 ∷ 0x00 ∷ 0xff ∷ 9 ∷ 0 ∷ 0 ∷ 9 ∷ [])
-    ∷ countsBack (0x82 ∷ 0x00 ∷ []) (9 ∷ 0 ∷ 0 ∷ 0 ∷ 0 ∷ [])
-    ∷ countsBack (0x82 ∷ []) (1 ∷ 0 ∷ 0 ∷ 0 ∷ 0 ∷ [])
-    ∷ counts 0 (0x00 ∷ [])
-    ∷ counts 18446744073709551615 (0xff ∷ 0xff ∷ 0xff ∷ 0xff ∷ 0xff ∷ 0xff ∷ 0xff ∷ 0xff ∷ 0xff ∷ 0x01 ∷ [])
-    ∷ countsBack (0xff ∷ 0xff ∷ 0xff ∷ 0xff ∷ 0xff ∷ 0xff ∷ 0xff ∷ 0xff ∷ 0xff ∷ 0x02 ∷ []) (9 ∷ 0 ∷ 0 ∷ 0 ∷ 0 ∷ [])
-    ∷ checks 1 1 Rgb (0xfd ∷ []) (10 ∷ 0 ∷ 0 ∷ 0 ∷ 0 ∷ [])
-    ∷ checks 1 1 Rgb (0xc0 ∷ (marker ++ (0 ∷ []))) (11 ∷ 0 ∷ 0 ∷ 0 ∷ 0 ∷ [])
-    ∷ decodes 1 1 Rgb 3 (0xc0 ∷ (marker ++ (0 ∷ []))) (0 ∷ 3 ∷ 23 ∷ 0 ∷ 0 ∷ []) (0 ∷ 0 ∷ 0 ∷ [])
-    ∷ leaves 1 1 Rgb 3 (0xc0 ∷ (marker ++ (1 ∷ 2 ∷ []))) (1 ∷ 2 ∷ [])
-    ∷ leaves 1 1 Rgb 3 (0xc0 ∷ (0 ∷ 0 ∷ 0 ∷ 0 ∷ 0 ∷ 0 ∷ 0 ∷ 2 ∷ 1 ∷ [])) []
+-- whole streams, byte by byte
+spelled : List Case
+spelled =
+    -- colour space 0, sRGB with linear alpha
+    streams 1 1 Rgb 0 (rgb 0 0 0) (blackStream 0)
+    -- colour space 1, linear
+    ∷ streams 1 1 Rgb 1 (rgb 0 0 0) (blackStream 1)
+    -- strict answers the header with its colour space
+    ∷ checks (blackStream 1) (accepted (1 ∷ 1 ∷ 3 ∷ 1 ∷ 1 ∷ 23 ∷ []))
+    -- width 2, height 3 and four channels stand in their places
+    ∷ streams 2 3 Rgba 1 (repeated 6 (rgba 0 0 0 255)) (fourteen 2 3 4 1 ++ (0xc5 ∷ marker))
+    -- strict answers each of the header's four figures
+    ∷ checks (message 2 3 Rgba (0xc5 ∷ [])) (accepted (2 ∷ 3 ∷ 4 ∷ 0 ∷ 1 ∷ 23 ∷ []))
+    -- width and height are 32-bit big-endian
+    ∷ opens (0x71 ∷ 0x6f ∷ 0x69 ∷ 0x66 ∷ 0x01 ∷ 0x02 ∷ 0x03 ∷ 0x04 ∷ 0 ∷ 0 ∷ 0 ∷ 5 ∷ 4 ∷ 1 ∷ [])
+    (accepted (16909060 ∷ 5 ∷ 4 ∷ 1 ∷ []))
     ∷ []
 
--- the record's length, and its refusals from left to right
-recordRows : List Case
-recordRows =
-    records 1 1 Rgb 3 279 (0 ∷ 277 ∷ 0 ∷ 0 ∷ 0 ∷ [])
-    (0x71 ∷ 0x6f ∷ 0x69 ∷ 0x66 ∷ 0 ∷ 0 ∷ 0 ∷ 1 ∷ 0 ∷ 0 ∷ 0 ∷ 1 ∷ 3 ∷ 0 ∷ 3 ∷ 14 ∷ 0 ∷ 0 ∷ 0 ∷ 0 ∷ 255 ∷ (replicate 256 0 ++ (0xee ∷ 0xee ∷ [])))
-    ∷ records 1 1 Rgb 3 276 (7 ∷ 276 ∷ 277 ∷ 0 ∷ 0 ∷ []) (replicate 276 0xee)
-    ∷ records 1 1 Rgb 5 277 (9 ∷ 0 ∷ 0 ∷ 0 ∷ 0 ∷ []) (replicate 277 0xee)
-    ∷ records 1 1 Rgb 5 276 (9 ∷ 0 ∷ 0 ∷ 0 ∷ 0 ∷ []) (replicate 276 0xee)
-    ∷ readsBack 1 1 Rgb 3 277 [] (0 ∷ 14 ∷ 0 ∷ 3 ∷ 0 ∷ [])
-    ∷ readsBack 1 1 Rgb 3 13 [] (1 ∷ 0 ∷ 0 ∷ 0 ∷ 0 ∷ [])
-    ∷ readsBack 1 1 Rgb 3 14 [] (1 ∷ 0 ∷ 0 ∷ 0 ∷ 0 ∷ [])
-    ∷ readsBack 1 1 Rgb 3 14 (0x82 ∷ 0x00 ∷ []) (9 ∷ 0 ∷ 0 ∷ 0 ∷ 0 ∷ [])
-    ∷ readsBack 1 1 Rgb 3 14 (0x05 ∷ []) (2 ∷ 5 ∷ 0 ∷ 0 ∷ 0 ∷ [])
-    ∷ readsBack 1 1 Rgb 3 14 (0xac ∷ 0x02 ∷ []) (2 ∷ 255 ∷ 0 ∷ 0 ∷ 0 ∷ [])
-    ∷ readsBack 1 1 Rgb 3 276 [] (1 ∷ 0 ∷ 0 ∷ 0 ∷ 0 ∷ [])
-    ∷ readsBack 1 1 Rgb 3 277 (0 ∷ []) (9 ∷ 0 ∷ 0 ∷ 0 ∷ 0 ∷ [])
-    ∷ readsBack 1 1 Rgb 3 15 (0x0d ∷ replicate 261 0) (9 ∷ 0 ∷ 0 ∷ 0 ∷ 0 ∷ [])
+-- an empty message, whoever reads it, is refusal 1
+empty : List Case
+empty =
+    -- the header
+    opens [] (refusal 1 [])
+    -- the decoder
+    ∷ decodesInto [] 3 0 (refusal 1 []) []
+    -- the document
+    ∷ documentsInto [] 3 0 (refusal 1 []) []
+    -- a start
+    ∷ starts [] 3 (refusal 1 [])
+    -- a record
+    ∷ readsBack [] (refusal 1 [])
+    -- a number
+    ∷ countsBack [] (refusal 1 [])
     ∷ []
 
--- the ends of the ranges that choose DIFF, LUMA and RGB
+-- which chunk the encoder writes for a differing pixel; the pixel before the first is (0,0,0,255)
 edges : List Case
 edges =
-    encodes 1 1 Rgb (254 ∷ 254 ∷ 254 ∷ []) (0x40 ∷ [])
-    ∷ encodes 1 1 Rgb (1 ∷ 1 ∷ 1 ∷ []) (0x7f ∷ [])
-    ∷ encodes 1 1 Rgb (2 ∷ 0 ∷ 0 ∷ []) (0xa0 ∷ 0xa8 ∷ [])
-    ∷ encodes 1 1 Rgb (253 ∷ 0 ∷ 0 ∷ []) (0xa0 ∷ 0x58 ∷ [])
-    ∷ encodes 1 1 Rgb (0 ∷ 0 ∷ 2 ∷ []) (0xa0 ∷ 0x8a ∷ [])
-    ∷ encodes 1 1 Rgb (31 ∷ 31 ∷ 31 ∷ []) (0xbf ∷ 0x88 ∷ [])
-    ∷ encodes 1 1 Rgb (32 ∷ 32 ∷ 32 ∷ []) (0xfe ∷ 32 ∷ 32 ∷ 32 ∷ [])
-    ∷ encodes 1 1 Rgb (224 ∷ 224 ∷ 224 ∷ []) (0x80 ∷ 0x88 ∷ [])
-    ∷ encodes 1 1 Rgb (223 ∷ 223 ∷ 223 ∷ []) (0xfe ∷ 223 ∷ 223 ∷ 223 ∷ [])
-    ∷ encodes 1 1 Rgb (7 ∷ 0 ∷ 248 ∷ []) (0xa0 ∷ 0xf0 ∷ [])
-    ∷ encodes 1 1 Rgb (8 ∷ 0 ∷ 0 ∷ []) (0xfe ∷ 8 ∷ 0 ∷ 0 ∷ [])
-    ∷ encodes 1 1 Rgb (0 ∷ 0 ∷ 247 ∷ []) (0xfe ∷ 0 ∷ 0 ∷ 247 ∷ [])
+    -- DIFF holds -2 in each colour
+    encodes 1 1 Rgb (rgb 254 254 254) (0x40 ∷ [])
+    -- DIFF holds 1 in each colour
+    ∷ encodes 1 1 Rgb (rgb 1 1 1) (0x7f ∷ [])
+    -- red +2 is LUMA
+    ∷ encodes 1 1 Rgb (rgb 2 0 0) (0xa0 ∷ 0xa8 ∷ [])
+    -- green +2 is LUMA
+    ∷ encodes 1 1 Rgb (rgb 0 2 0) (0xa2 ∷ 0x66 ∷ [])
+    -- blue +2 is LUMA
+    ∷ encodes 1 1 Rgb (rgb 0 0 2) (0xa0 ∷ 0x8a ∷ [])
+    -- red -3 is LUMA
+    ∷ encodes 1 1 Rgb (rgb 253 0 0) (0xa0 ∷ 0x58 ∷ [])
+    -- green -3 is LUMA
+    ∷ encodes 1 1 Rgb (rgb 0 253 0) (0x9d ∷ 0xbb ∷ [])
+    -- blue -3 is LUMA
+    ∷ encodes 1 1 Rgb (rgb 0 0 253) (0xa0 ∷ 0x85 ∷ [])
+    -- LUMA holds green 31
+    ∷ encodes 1 1 Rgb (rgb 31 31 31) (0xbf ∷ 0x88 ∷ [])
+    -- green 32 is RGB
+    ∷ encodes 1 1 Rgb (rgb 32 32 32) (0xfe ∷ 32 ∷ 32 ∷ 32 ∷ [])
+    -- LUMA holds green -32
+    ∷ encodes 1 1 Rgb (rgb 224 224 224) (0x80 ∷ 0x88 ∷ [])
+    -- green -33 is RGB
+    ∷ encodes 1 1 Rgb (rgb 223 223 223) (0xfe ∷ 223 ∷ 223 ∷ 223 ∷ [])
+    -- LUMA holds red less green 7
+    ∷ encodes 1 1 Rgb (rgb 7 0 0) (0xa0 ∷ 0xf8 ∷ [])
+    -- red less green 8 is RGB
+    ∷ encodes 1 1 Rgb (rgb 8 0 0) (0xfe ∷ 8 ∷ 0 ∷ 0 ∷ [])
+    -- LUMA holds red less green -8
+    ∷ encodes 1 1 Rgb (rgb 248 0 0) (0xa0 ∷ 0x08 ∷ [])
+    -- red less green -9 is RGB
+    ∷ encodes 1 1 Rgb (rgb 247 0 0) (0xfe ∷ 0xf7 ∷ 0x00 ∷ 0x00 ∷ [])
+    -- LUMA holds blue less green 7
+    ∷ encodes 1 1 Rgb (rgb 0 0 7) (0xa0 ∷ 0x8f ∷ [])
+    -- blue less green 8 is RGB
+    ∷ encodes 1 1 Rgb (rgb 0 0 8) (0xfe ∷ 0x00 ∷ 0x00 ∷ 0x08 ∷ [])
+    -- LUMA holds blue less green -8
+    ∷ encodes 1 1 Rgb (rgb 0 0 248) (0xa0 ∷ 0x80 ∷ [])
+    -- blue less green -9 is RGB
+    ∷ encodes 1 1 Rgb (rgb 0 0 247) (0xfe ∷ 0 ∷ 0 ∷ 247 ∷ [])
+    -- differences are against the previous pixel: RGB, then DIFF of 1 each, then LUMA of 10, 12 and 9
+    ∷ encodes 3 1 Rgb (rgb 50 60 70 ++ (rgb 51 61 71 ++ rgb 61 73 80))
+    (0xfe ∷ 50 ∷ 60 ∷ 70 ∷ 0x7f ∷ 0xac ∷ 0x65 ∷ [])
+    -- differences wrap modulo 256: from (255,255,255) to (0,0,0) is 1 each
+    ∷ encodes 2 1 Rgb (rgb 255 255 255 ++ rgb 0 0 0) (0x55 ∷ 0x7f ∷ [])
+    -- alpha 128 is unchanged: DIFF
+    ∷ encodes 2 1 Rgba (rgba 0 0 0 128 ++ rgba 1 0 0 128) (0xff ∷ 0x00 ∷ 0x00 ∷ 0x00 ∷ 0x80 ∷ 0x7a ∷ [])
+    -- alpha 128 is unchanged: RGB, which keeps it
+    ∷ encodes 2 1 Rgba (rgba 0 0 0 128 ++ rgba 100 0 0 128)
+    (0xff ∷ 0x00 ∷ 0x00 ∷ 0x00 ∷ 0x80 ∷ 0xfe ∷ 0x64 ∷ 0x00 ∷ 0x00 ∷ [])
+    -- alpha that changes to 255 is RGBA
+    ∷ encodes 2 1 Rgba (rgba 0 0 0 128 ++ rgba 1 0 0 255)
+    (0xff ∷ 0x00 ∷ 0x00 ∷ 0x00 ∷ 0x80 ∷ 0xff ∷ 0x01 ∷ 0x00 ∷ 0x00 ∷ 0xff ∷ [])
+    -- INDEX only if the slot holds this very pixel: these five share slot 33, and each differs in one channel
+    ∷ encodes 5 1 Rgba
+    (rgba 100 0 0 255 ++ (rgba 36 0 0 255 ++ (rgba 36 64 0 255 ++ (rgba 36 64 64 255 ++ rgba 36 64 64 191))))
+    (0xfe ∷ 100 ∷ 0 ∷ 0 ∷ 0xfe ∷ 36 ∷ 0 ∷ 0 ∷ 0xfe ∷ 36 ∷ 64 ∷ 0 ∷ 0xfe ∷ 36 ∷ 64 ∷ 64 ∷ 0xff ∷ 36 ∷ 64 ∷ 64 ∷ 191 ∷ [])
     ∷ []
 
--- the order of refusals, and the ends of chunks
+-- runs of the encoder
+runs : List Case
+runs =
+    -- a run of 2 that another pixel ends is RUN: A A A B
+    encodes 4 1 Rgb (A ++ (A ++ (A ++ B))) (0xfe ∷ 0x64 ∷ 0x00 ∷ 0x00 ∷ 0xc1 ∷ 0xfe ∷ 0x00 ∷ 0x00 ∷ 0x00 ∷ [])
+    -- at the last pixel a run of 1 is RUN: A A
+    ∷ encodes 2 1 Rgb (A ++ A) (0xfe ∷ 0x64 ∷ 0x00 ∷ 0x00 ∷ 0xc0 ∷ [])
+    -- a run of 62 at the last pixel, after A B
+    ∷ encodes 64 1 Rgb (A ++ black 63) (0xfe ∷ 0x64 ∷ 0x00 ∷ 0x00 ∷ 0xfe ∷ 0x00 ∷ 0x00 ∷ 0x00 ∷ 0xfd ∷ [])
+    -- the first pixel is INDEX and differs from the start pixel, so the run of 1 after it is INDEX too
+    ∷ encodes 3 1 Rgba (rgba 0 0 0 0 ++ (rgba 0 0 0 0 ++ rgba 9 0 0 9)) (0x00 ∷ 0x00 ∷ 0xff ∷ 9 ∷ 0 ∷ 0 ∷ 9 ∷ [])
+    -- A, a run of 62, a run of 1 as INDEX, then B
+    ∷ encodes 65 1 Rgb (repeated 64 A ++ B) (0xfe ∷ 0x64 ∷ 0x00 ∷ 0x00 ∷ 0xfd ∷ 0x21 ∷ 0xfe ∷ 0x00 ∷ 0x00 ∷ 0x00 ∷ [])
+    -- a run of 62 and a run of 1 from the start: no pixel has differed, so RUN
+    ∷ encodes 64 1 Rgb (black 63 ++ A) (0xfd ∷ 0xc0 ∷ 0xfe ∷ 0x64 ∷ 0x00 ∷ 0x00 ∷ [])
+    -- after a run of 62 nothing is left to write before A
+    ∷ encodes 63 1 Rgb (black 62 ++ A) (0xfd ∷ 0xfe ∷ 0x64 ∷ 0x00 ∷ 0x00 ∷ [])
+    ∷ []
+
+-- the ends of chunks, and of the message
+ends : List Case
+ends =
+    -- 3f is INDEX of the last slot, which is empty
+    decodes 1 1 Rgb 4 (0x3f ∷ marker) (accepted (4 ∷ 23 ∷ [])) (rgba 0 0 0 0)
+    -- a LUMA chunk whose second byte is not there is 1
+    ∷ decodes 1 1 Rgb 3 (0xa1 ∷ []) (refusal 1 []) (held 3)
+    -- a whole one is done before the end is 1
+    ∷ decodes 1 1 Rgb 3 (0xa1 ∷ 0x88 ∷ []) (refusal 1 []) (rgb 1 1 1)
+    -- an RGB chunk without its third byte
+    ∷ decodes 1 1 Rgb 3 (0xfe ∷ 1 ∷ 2 ∷ []) (refusal 1 []) (held 3)
+    -- a whole one
+    ∷ decodes 1 1 Rgb 3 (0xfe ∷ 1 ∷ 2 ∷ 3 ∷ []) (refusal 1 []) (rgb 1 2 3)
+    -- an RGBA chunk without its fourth byte
+    ∷ decodes 1 1 Rgba 4 (0xff ∷ 1 ∷ 2 ∷ 3 ∷ []) (refusal 1 []) (held 4)
+    -- a whole one
+    ∷ decodes 1 1 Rgba 4 (0xff ∷ 1 ∷ 2 ∷ 3 ∷ 4 ∷ []) (refusal 1 []) (rgba 1 2 3 4)
+    -- after a refusal 1 the pixels of chunks already done stand, the rest is untouched
+    ∷ decodes 2 1 Rgb 3 (0xc0 ∷ []) (refusal 1 []) (rgb 0 0 0 ++ held 3)
+    -- under 8 bytes after the last pixel: 1
+    ∷ decodes 1 1 Rgb 3 (0xc0 ∷ replicate 7 0) (refusal 1 []) (rgb 0 0 0)
+    -- not the marker: 8, every pixel written
+    ∷ decodes 1 1 Rgb 3 (0xc0 ∷ replicate 8 0) (refusal 8 []) (rgb 0 0 0)
+    -- later bytes are ignored
+    ∷ decodes 1 1 Rgb 3 (0xc0 ∷ (marker ++ (0 ∷ []))) (accepted (3 ∷ 23 ∷ [])) (rgb 0 0 0)
+    -- a run is clipped to the pixels left
+    ∷ decodes 2 1 Rgb 3 (0xc0 ∷ 0xfd ∷ marker) (accepted (6 ∷ 24 ∷ [])) (black 2)
+    -- an output longer than needed: only the first needed bytes are used
+    ∷ decodesInto (message 1 1 Rgb (0xc0 ∷ [])) 3 5 (accepted (3 ∷ 23 ∷ [])) (rgb 0 0 0 ++ held 2)
+    -- the document reads ff in any source
+    ∷ documents 1 1 Rgb 4 (0xff ∷ 1 ∷ 2 ∷ 3 ∷ 4 ∷ marker) (accepted (4 ∷ 27 ∷ [])) (rgba 1 2 3 4)
+    -- the rest of a message is what follows the marker
+    ∷ leaves 1 1 Rgb 3 (0xc0 ∷ (marker ++ (1 ∷ 2 ∷ []))) (1 ∷ 2 ∷ [])
+    -- after a refusal it is empty
+    ∷ leaves 1 1 Rgb 3 (0xc0 ∷ (replicate 7 0 ++ (2 ∷ 1 ∷ []))) []
+    ∷ []
+
+-- the order of the refusals of header, encode and decode
 orders : List Case
 orders =
-    encodes 65 1 Rgb ((100 ∷ 0 ∷ 0 ∷ []) ++ (repeated 63 (100 ∷ 0 ∷ 0 ∷ []) ++ (0 ∷ 0 ∷ 0 ∷ []))) (0xfe ∷ 0x64 ∷ 0 ∷ 0 ∷ 0xfd ∷ 0x21 ∷ 0xfe ∷ 0 ∷ 0 ∷ 0 ∷ [])
-    ∷ encodes 64 1 Rgb (replicate 189 0 ++ (100 ∷ 0 ∷ 0 ∷ [])) (0xfd ∷ 0xc0 ∷ 0xfe ∷ 0x64 ∷ 0 ∷ 0 ∷ [])
-    ∷ decodes 1 1 Rgb 3 (0xa0 ∷ []) (1 ∷ 0 ∷ 0 ∷ 0 ∷ 0 ∷ []) []
-    ∷ decodes 1 1 Rgb 3 (0xfe ∷ 1 ∷ 2 ∷ []) (1 ∷ 0 ∷ 0 ∷ 0 ∷ 0 ∷ []) []
-    ∷ decodes 1 1 Rgba 4 (0xff ∷ 1 ∷ 2 ∷ 3 ∷ []) (1 ∷ 0 ∷ 0 ∷ 0 ∷ 0 ∷ []) []
-    ∷ decodes 2 1 Rgb 3 (0xc0 ∷ 0xfd ∷ marker) (0 ∷ 6 ∷ 24 ∷ 0 ∷ 0 ∷ []) (replicate 6 0)
-    ∷ decodesInto 1 1 Rgb 5 0 [] (2 ∷ 5 ∷ 0 ∷ 0 ∷ 0 ∷ []) []
-    ∷ decodesInto 1 1 Rgb 300 0 [] (2 ∷ 255 ∷ 0 ∷ 0 ∷ 0 ∷ []) []
-    ∷ decodesInto 1 1 Rgb 4 3 [] (7 ∷ 3 ∷ 4 ∷ 0 ∷ 0 ∷ []) (replicate 3 0xee)
-    ∷ decodesInto 1 1 Rgb 3 5 (0xc0 ∷ marker) (0 ∷ 3 ∷ 23 ∷ 0 ∷ 0 ∷ []) (0 ∷ 0 ∷ 0 ∷ 0xee ∷ 0xee ∷ [])
-    ∷ decodesInto 2 1 Rgb 3 6 (0xc0 ∷ []) (1 ∷ 0 ∷ 0 ∷ 0 ∷ 0 ∷ []) (0 ∷ 0 ∷ 0 ∷ 0xee ∷ 0xee ∷ 0xee ∷ [])
-    ∷ documents 1 1 Rgb 4 (0xff ∷ 1 ∷ 2 ∷ 3 ∷ 4 ∷ marker) (0 ∷ 4 ∷ 27 ∷ 0 ∷ 0 ∷ []) (1 ∷ 2 ∷ 3 ∷ 4 ∷ [])
-    ∷ encodesInto 0 1 2 (1 ∷ []) 0 (5 ∷ 0 ∷ 1 ∷ 0 ∷ 0 ∷ [])
-    ∷ encodesInto 20000 20000 2 [] 0 (2 ∷ 0 ∷ 0 ∷ 0 ∷ 0 ∷ [])
-    ∷ encodesInto 1 1 2 (replicate 256 0) 0 (2 ∷ 255 ∷ 0 ∷ 0 ∷ 0 ∷ [])
-    ∷ encodesInto 1 1 2 (0 ∷ 0 ∷ 0 ∷ []) 0 (3 ∷ 2 ∷ 0 ∷ 0 ∷ 0 ∷ [])
-    ∷ checks 1 1 Rgb (0xa0 ∷ []) (1 ∷ 0 ∷ 0 ∷ 0 ∷ 0 ∷ [])
-    ∷ checks 1 1 Rgb (0xff ∷ 0 ∷ 0 ∷ 0 ∷ 0 ∷ 0 ∷ 0 ∷ []) (1 ∷ 0 ∷ 0 ∷ 0 ∷ 0 ∷ [])
-    ∷ checks 1 1 Rgb (0xc0 ∷ replicate 7 0) (1 ∷ 0 ∷ 0 ∷ 0 ∷ 0 ∷ [])
-    ∷ checks 1 1 Rgb (0xc0 ∷ replicate 9 0) (8 ∷ 0 ∷ 0 ∷ 0 ∷ 0 ∷ [])
-    ∷ opens (replicate 12 0 ++ (5 ∷ [])) (1 ∷ 0 ∷ 0 ∷ 0 ∷ 0 ∷ [])
-    ∷ opens (replicate 12 0 ++ (5 ∷ 9 ∷ [])) (2 ∷ 5 ∷ 0 ∷ 0 ∷ 0 ∷ [])
-    ∷ opens (replicate 12 0 ++ (3 ∷ 9 ∷ [])) (3 ∷ 9 ∷ 0 ∷ 0 ∷ 0 ∷ [])
-    ∷ opens (1 ∷ (replicate 11 0 ++ (3 ∷ 1 ∷ []))) (4 ∷ 16777216 ∷ 0 ∷ 0 ∷ 0 ∷ [])
-    ∷ starts (replicate 12 0 ++ (5 ∷ 9 ∷ [])) 300 (2 ∷ 5 ∷ 0 ∷ 0 ∷ 0 ∷ [])
-    ∷ starts (headerBytes (headerWith 1 1 Rgb)) 300 (2 ∷ 255 ∷ 0 ∷ 0 ∷ 0 ∷ [])
-    ∷ starts (headerBytes (headerWith 1 1 Rgb)) 4 (0 ∷ 14 ∷ 0 ∷ 4 ∷ 0 ∷ [])
-    ∷ readsBack 1 1 Rgb 3 0 (replicate 12 0 ++ (5 ∷ 9 ∷ [])) (2 ∷ 5 ∷ 0 ∷ 0 ∷ 0 ∷ [])
-    ∷ readsBack 1 1 Rgb 3 15 (0x0e ∷ 0x00 ∷ 0 ∷ 0 ∷ 0 ∷ 254 ∷ replicate 256 0) (9 ∷ 0 ∷ 0 ∷ 0 ∷ 0 ∷ [])
-    ∷ readsBack 1 1 Rgb 3 15 (0x0e ∷ 0x02 ∷ 0 ∷ 0 ∷ 0 ∷ 255 ∷ replicate 256 0) (9 ∷ 0 ∷ 0 ∷ 0 ∷ 0 ∷ [])
-    ∷ readsBack 1 1 Rgb 3 15 (0x0d ∷ 0x00 ∷ replicate 259 0) (1 ∷ 0 ∷ 0 ∷ 0 ∷ 0 ∷ [])
-    ∷ stepsOn 1 1 Rgb 5 13 0 255 0 [] (9 ∷ 0 ∷ 0 ∷ 0 ∷ 0 ∷ [])
-    ∷ stepsOn 1 1 Rgb 3 18446744073709551615 1 255 2 [] (7 ∷ 2 ∷ 3 ∷ 0 ∷ 0 ∷ [])
-    ∷ stepsOn 1 1 Rgb 3 18446744073709551615 0 255 3 (0xc0 ∷ marker) (1 ∷ 0 ∷ 0 ∷ 0 ∷ 0 ∷ [])
-    ∷ stepsOn 1 1 Rgb 3 18446744073709551615 1 255 3 (0xc0 ∷ marker) (1 ∷ 0 ∷ 0 ∷ 0 ∷ 0 ∷ [])
-    ∷ stepsOn 1 1 Rgb 3 15 1 255 3 (0xc0 ∷ marker) (0 ∷ 3 ∷ 23 ∷ 0 ∷ 0 ∷ [])
-    ∷ stepsOn 1 1 Rgb 4 14 0 7 4 (0xff ∷ replicate 7 0) (256 ∷ 14 ∷ 1 ∷ 4 ∷ 0 ∷ [])
+    -- header: length under 14 is 1, before channels
+    opens (take 13 (wrongMagic 5 9)) (refusal 1 [])
+    -- then 2
+    ∷ opens (wrongMagic 5 9) (refusal 2 (5 ∷ []))
+    -- then 3
+    ∷ opens (wrongMagic 3 9) (refusal 3 (9 ∷ []))
+    -- then 4, with the magic that was found
+    ∷ opens (1 ∷ (replicate 11 0 ++ (3 ∷ 1 ∷ []))) (refusal 4 (16777216 ∷ []))
+    -- encoding: 5
+    ∷ encodesInto 0 1 2 (1 ∷ []) 0 (refusal 5 (0 ∷ 1 ∷ []))
+    -- then 6
+    ∷ encodesInto 2 1 2 (1 ∷ []) 0 (refusal 6 (1 ∷ 2 ∷ 1 ∷ []))
+    -- then 2; 400,000,000 pixels are no refusal 5
+    ∷ encodesInto 20000 20000 2 [] 0 (refusal 2 (0 ∷ []))
+    -- which carries the quotient or 255 if larger
+    ∷ encodesInto 1 1 2 (replicate 256 0) 0 (refusal 2 (255 ∷ []))
+    -- then 3 for a colour space above 1
+    ∷ encodesInto 1 1 2 (rgb 0 0 0) 0 (refusal 3 (2 ∷ []))
+    -- then 7: room required is 22 + pixels x (channels+1)
+    ∷ encodesInto 2 1 1 (replicate 8 0) 31 (refusal 7 (31 ∷ 32 ∷ []))
+    -- decoding: header
+    ∷ decodesInto (wrongMagic 5 9) 300 0 (refusal 2 (5 ∷ [])) []
+    -- then 2 for wanted other than 3 or 4
+    ∷ decodesInto (headed 1 1 Rgb []) 5 0 (refusal 2 (5 ∷ [])) []
+    -- capped at 255
+    ∷ decodesInto (headed 1 1 Rgb []) 300 0 (refusal 2 (255 ∷ [])) []
+    -- then 7: required is pixels x wanted
+    ∷ decodesInto (headed 2 1 Rgb []) 4 7 (refusal 7 (7 ∷ 8 ∷ [])) (held 7)
+    -- then chunks
+    ∷ decodesInto (headed 1 1 Rgb []) 4 4 (refusal 1 []) (held 4)
     ∷ []
 
--- filled slots: RUN fills none, slot 0 is excepted with four channels and not with three, a chunk before fills its own, the marker is no INDEX
+-- the strict check
+stricts : List Case
+stricts =
+    -- a run of 2 is one chunk for two pixels
+    checks (message 2 1 Rgb (0xc1 ∷ [])) (accepted (2 ∷ 1 ∷ 3 ∷ 0 ∷ 1 ∷ 23 ∷ []))
+    -- a run one longer than the pixels left is 10
+    ∷ checks (message 1 1 Rgb (0xc1 ∷ [])) (refusal 10 [])
+    -- the pixels left are fewer after a chunk
+    ∷ checks (message 2 1 Rgb (0xc0 ∷ 0xc1 ∷ [])) (refusal 10 [])
+    -- LUMA, DIFF and INDEX: three chunks in four bytes
+    ∷ checks (message 3 1 Rgb (0xa0 ∷ 0x88 ∷ 0x6a ∷ 0x35 ∷ [])) (accepted (3 ∷ 1 ∷ 3 ∷ 0 ∷ 3 ∷ 26 ∷ []))
+    -- RGBA in a 4-channel source: one chunk in five bytes
+    ∷ checks (message 1 1 Rgba (0xff ∷ 0 ∷ 0 ∷ 0 ∷ 128 ∷ [])) (accepted (1 ∷ 1 ∷ 4 ∷ 0 ∷ 1 ∷ 27 ∷ []))
+    -- header first, with its own order
+    ∷ checks (wrongMagic 5 9) (refusal 2 (5 ∷ []))
+    -- at each chunk 1
+    ∷ checks (headed 1 1 Rgb (0xa0 ∷ [])) (refusal 1 [])
+    -- ff in a 3-channel source with under 8 bytes left is 1
+    ∷ checks (headed 1 1 Rgb (0xff ∷ replicate 6 0)) (refusal 1 [])
+    -- with 8 it is 8
+    ∷ checks (headed 1 1 Rgb (0xff ∷ replicate 7 0)) (refusal 8 [])
+    -- a run past the image is 10, before the end is looked at
+    ∷ checks (headed 1 1 Rgb (0xfd ∷ [])) (refusal 10 [])
+    -- at the end 1
+    ∷ checks (headed 1 1 Rgb (0xc0 ∷ replicate 7 0)) (refusal 1 [])
+    -- then 8
+    ∷ checks (headed 1 1 Rgb (0xc0 ∷ replicate 9 0)) (refusal 8 [])
+    -- then 11
+    ∷ checks (headed 1 1 Rgb (0xc0 ∷ (marker ++ (0 ∷ [])))) (refusal 11 [])
+    ∷ []
+
+-- what the decoder reads of a message: runs that fit, chunks, and where each is found
+traced : List Case
+traced =
+    -- A B A A B: five chunks, no run
+    traces (message 5 1 Rgb chunksABAAB) true 5 (14 ∷ 18 ∷ 22 ∷ 23 ∷ 24 ∷ [])
+    -- a run of 2 for two pixels fits
+    ∷ traces (message 2 1 Rgb (0xc1 ∷ [])) true 1 (14 ∷ [])
+    -- a run of 2 for one pixel does not
+    ∷ traces (message 1 1 Rgb (0xc1 ∷ [])) false 1 (14 ∷ [])
+    -- nor for the one pixel that is left
+    ∷ traces (message 2 1 Rgb (0xc0 ∷ 0xc1 ∷ [])) false 2 (14 ∷ 15 ∷ [])
+    -- nor in a message with no marker; with no pixel left no chunk is read
+    ∷ traces (headed 1 1 Rgb (0xc1 ∷ 0xc0 ∷ [])) false 1 (14 ∷ [])
+    -- with a pixel left the marker's bytes are read as chunks
+    ∷ traces (message 4 1 Rgb (0xc1 ∷ [])) true 3 (14 ∷ 15 ∷ 16 ∷ [])
+    -- RGBA takes five bytes of a 4-channel source
+    ∷ traces (message 2 1 Rgba (0xff ∷ 0 ∷ 0 ∷ 0 ∷ 128 ∷ 0x7a ∷ [])) true 2 (14 ∷ 19 ∷ [])
+    -- a cut message: the chunks up to the cut
+    ∷ traces (headed 3 1 Rgb (0xc0 ∷ 0xa0 ∷ [])) true 1 (14 ∷ [])
+    -- a header alone
+    ∷ traces (headed 3 1 Rgb []) true 0 []
+    -- an ff that is not consumed counts one for each pixel left
+    ∷ traces (headed 4 1 Rgb (0xc0 ∷ 0xff ∷ replicate 7 0)) true 4 (14 ∷ 15 ∷ 15 ∷ 15 ∷ [])
+    -- with under 8 bytes left it is cut
+    ∷ traces (headed 4 1 Rgb (0xc0 ∷ 0xff ∷ replicate 6 0)) true 1 (14 ∷ [])
+    -- a message with no header
+    ∷ traces [] true 0 []
+    -- a header that is refused
+    ∷ traces (wrongMagic 3 0 ++ (0xc0 ∷ marker)) true 0 []
+    ∷ []
+
+-- filled slots
 filled : List Case
 filled =
-    fills 2 1 Rgba (0xc0 ∷ 0x35 ∷ []) false
-    ∷ fills 3 1 Rgba (0x00 ∷ 0x00 ∷ 0xff ∷ 9 ∷ 0 ∷ 0 ∷ 9 ∷ []) true
-    ∷ fills 3 1 Rgba (0xff ∷ 0x00 ∷ 0x00 ∷ 0x00 ∷ 0x80 ∷ 0x05 ∷ 0x00 ∷ []) false
-    ∷ fills 1 1 Rgb (0x00 ∷ []) false
-    ∷ fills 5 1 Rgb (0xfe ∷ 0x64 ∷ 0x00 ∷ 0x00 ∷ 0xfe ∷ 0x00 ∷ 0x00 ∷ 0x00 ∷ 0x21 ∷ 0x21 ∷ 0x35 ∷ []) true
-    ∷ fills 2 1 Rgb (0xfd ∷ []) true
+    -- RUN fills none
+    fills (message 2 1 Rgba (0xc0 ∷ 0x35 ∷ [])) false
+    -- slot 0 of a 4-channel source is excepted
+    ∷ fills (message 3 1 Rgba (0x00 ∷ 0x00 ∷ 0xff ∷ 9 ∷ 0 ∷ 0 ∷ 9 ∷ [])) true
+    -- slot 5 is not
+    ∷ fills (message 3 1 Rgba (0xff ∷ 0x00 ∷ 0x00 ∷ 0x00 ∷ 0x80 ∷ 0x05 ∷ 0x00 ∷ [])) false
+    -- nor slot 0 of a 3-channel source
+    ∷ fills (message 1 1 Rgb (0x00 ∷ [])) false
+    -- RGB fills its pixel's slot
+    ∷ fills (message 5 1 Rgb chunksABAAB) true
+    -- and no other
+    ∷ fills (message 2 1 Rgb (0xfe ∷ 0x64 ∷ 0x00 ∷ 0x00 ∷ 0x22 ∷ [])) false
+    -- so does DIFF
+    ∷ fills (message 2 1 Rgb (0x7a ∷ 0x38 ∷ [])) true
+    -- and LUMA
+    ∷ fills (message 2 1 Rgb (0xa0 ∷ 0xa8 ∷ 0x3b ∷ [])) true
+    -- and RGBA, with the real alpha of a 4-channel source
+    ∷ fills (message 2 1 Rgba (0xff ∷ 0x0a ∷ 0x00 ∷ 0x00 ∷ 0x80 ∷ 0x1e ∷ [])) true
+    -- a chunk does not fill the slot that it names itself
+    ∷ fills (message 2 1 Rgb (0x21 ∷ 0xfe ∷ 0x64 ∷ 0x00 ∷ 0x00 ∷ [])) false
+    -- the marker is no INDEX
+    ∷ fills (message 2 1 Rgb (0xfd ∷ [])) true
+    -- a message with no header names none
+    ∷ fills [] true
+    ∷ []
+
+-- starts and steps, and the order of their refusals
+steps : List Case
+steps =
+    -- a start: header
+    starts (wrongMagic 5 9) 300 (refusal 2 (5 ∷ []))
+    -- then 2, capped at 255
+    ∷ starts (headed 1 1 Rgb []) 300 (refusal 2 (255 ∷ []))
+    -- byte position 14, pixel position 0, the wanted channels
+    ∷ starts (headed 1 1 Rgb []) 4 (accepted (14 ∷ 0 ∷ 4 ∷ []))
+    -- its header is the message's
+    ∷ starts (blackStream 1) 3 (accepted (14 ∷ 0 ∷ 3 ∷ []))
+    -- a state is well formed if the header passes its own test: else 9, before 7
+    ∷ stepsOn (stateAt 20000 20001 Rgb 3 14 0 255) [] 0 (refusal 9 []) []
+    -- and has a pixel
+    ∷ stepsOn (stateAt 0 1 Rgb 3 14 0 255) [] 0 (refusal 9 []) []
+    -- wanted is 3 or 4
+    ∷ stepsOn (stateAt 1 1 Rgb 5 14 0 255) [] 0 (refusal 9 []) []
+    -- byte position is at least 14
+    ∷ stepsOn (stateAt 1 1 Rgb 3 13 0 255) [] 0 (refusal 9 []) []
+    -- pixel position at most the pixels
+    ∷ stepsOn (stateAt 1 1 Rgb 3 14 2 255) [] 0 (refusal 9 []) []
+    -- the fourth byte is 255 when wanted is 3
+    ∷ stepsOn (stateAt 1 1 Rgb 3 14 0 254) [] 0 (refusal 9 []) []
+    -- then 7, before the byte position
+    ∷ stepsOn (stateAt 1 1 Rgb 3 largest 1 255) [] 2 (refusal 7 (2 ∷ 3 ∷ [])) (held 2)
+    -- then byte position past the message: 1
+    ∷ stepsOn (stateAt 1 1 Rgb 3 largest 0 255) (message 1 1 Rgb (0xc0 ∷ [])) 3 (refusal 1 []) (held 3)
+    -- also with no pixel left
+    ∷ stepsOn (stateAt 1 1 Rgb 3 largest 1 255) (message 1 1 Rgb (0xc0 ∷ [])) 3 (refusal 1 []) (held 3)
+    -- a chunk is written from the pixel position on
+    ∷ stepsOn (stateAt 3 1 Rgb 3 14 1 255) (headed 3 1 Rgb (0xfe ∷ 1 ∷ 2 ∷ 3 ∷ [])) 9 (onward 18 2 3)
+    (held 3 ++ (rgb 1 2 3 ++ held 3))
+    -- with no pixel left the marker test ends, and writes nothing
+    ∷ stepsOn (stateAt 1 1 Rgb 3 15 1 255) (message 1 1 Rgb (0xc0 ∷ [])) 3 (accepted (3 ∷ 23 ∷ [])) (held 3)
+    -- one pixel for an unconsumed ff; with wanted 4 the fourth byte may be 7
+    ∷ stepsOn (stateAt 2 1 Rgb 4 14 0 7) (headed 2 1 Rgb (0xff ∷ replicate 7 0)) 8 (onward 14 1 4)
+    (rgba 0 0 0 7 ++ held 4)
+    ∷ []
+
+-- numbers and records, and the order of their refusals
+recordRows : List Case
+recordRows =
+    -- a number in one byte
+    counts 0 (0x00 ∷ [])
+    -- the last number in one byte
+    ∷ counts 127 (0x7f ∷ [])
+    -- the first in two
+    ∷ counts 128 (0x80 ∷ 0x01 ∷ [])
+    -- at most 2^64-1
+    ∷ counts largest (0xff ∷ 0xff ∷ 0xff ∷ 0xff ∷ 0xff ∷ 0xff ∷ 0xff ∷ 0xff ∷ 0xff ∷ 0x01 ∷ [])
+    -- a tenth byte above 01 is 9
+    ∷ countsBack (0xff ∷ 0xff ∷ 0xff ∷ 0xff ∷ 0xff ∷ 0xff ∷ 0xff ∷ 0xff ∷ 0xff ∷ 0x02 ∷ []) (refusal 9 [])
+    -- not shortest is 9
+    ∷ countsBack (0x82 ∷ 0x00 ∷ []) (refusal 9 [])
+    -- cut short is 1
+    ∷ countsBack (0x82 ∷ []) (refusal 1 [])
+    -- the shortest record, 277 bytes; bytes after it stay
+    ∷ records (startState 1 1 Rgb 3) 279 (accepted (277 ∷ []))
+    (fourteen 1 1 3 0 ++ (3 ∷ 14 ∷ 0 ∷ (rgba 0 0 0 255 ++ (replicate 256 0 ++ held 2))))
+    -- A B A A B after two steps: byte position 22, pixel position 2, current pixel B, both in their slots
+    ∷ records (stateAfter 2 5 1 Rgb 3 chunksABAAB) 277 (accepted (277 ∷ []))
+    (fourteen 5 1 3 0 ++ (3 ∷ 22 ∷ 2 ∷ (rgba 0 0 0 255 ++ slotsOfAB)))
+    -- writing: 9, before 7
+    ∷ records (startState 1 1 Rgb 5) 276 (refusal 9 []) (held 276)
+    -- 9 where there is room, too: nothing is written
+    ∷ records (startState 1 1 Rgb 5) 277 (refusal 9 []) (held 277)
+    -- then 7: required is its length
+    ∷ records (startState 1 1 Rgb 3) 276 (refusal 7 (276 ∷ 277 ∷ [])) (held 276)
+    -- reading back gives the same state
+    ∷ readsBack startRecord (accepted (14 ∷ 0 ∷ 3 ∷ []))
+    -- also in the middle of A B A A B
+    ∷ readsBack (recordBytes (stateAfter 2 5 1 Rgb 3 chunksABAAB)) (accepted (22 ∷ 2 ∷ 3 ∷ []))
+    -- also with wanted 4
+    ∷ readsBack (recordBytes (startState 1 1 Rgb 4)) (accepted (14 ∷ 0 ∷ 4 ∷ []))
+    -- reading goes left to right: a header cut short is 1
+    ∷ readsBack (take 13 startRecord) (refusal 1 [])
+    -- header as above
+    ∷ readsBack (wrongMagic 5 9) (refusal 2 (5 ∷ []))
+    -- cut short before wanted: 1
+    ∷ readsBack (take 14 startRecord) (refusal 1 [])
+    -- wanted not shortest: 9
+    ∷ readsBack (take 14 startRecord ++ (0x82 ∷ 0x00 ∷ [])) (refusal 9 [])
+    -- wanted other than 3 or 4 is 2 at its place
+    ∷ readsBack (take 14 startRecord ++ (0x05 ∷ [])) (refusal 2 (5 ∷ []))
+    -- capped at 255
+    ∷ readsBack (take 14 startRecord ++ (0xac ∷ 0x02 ∷ [])) (refusal 2 (255 ∷ []))
+    -- byte position not shortest: 9
+    ∷ readsBack (take 15 startRecord ++ (0x8e ∷ 0x00 ∷ [])) (refusal 9 [])
+    -- cut short before pixel position: 1
+    ∷ readsBack (take 16 startRecord) (refusal 1 [])
+    -- pixel position not shortest: 9
+    ∷ readsBack (take 16 startRecord ++ (0x80 ∷ 0x00 ∷ [])) (refusal 9 [])
+    -- the last slot cut short: 1
+    ∷ readsBack (take 276 startRecord) (refusal 1 [])
+    -- cut short comes before byte position 13
+    ∷ readsBack (take 15 startRecord ++ (0x0d ∷ 0x00 ∷ replicate 259 0)) (refusal 1 [])
+    -- after the last slot, byte position 13 is 9
+    ∷ readsBack (take 15 startRecord ++ (0x0d ∷ 0x00 ∷ (rgba 0 0 0 255 ++ replicate 256 0))) (refusal 9 [])
+    -- so is pixel position 2 of 1
+    ∷ readsBack (take 15 startRecord ++ (0x0e ∷ 0x02 ∷ (rgba 0 0 0 255 ++ replicate 256 0))) (refusal 9 [])
+    -- and a current pixel whose fourth byte is 254, with wanted 3
+    ∷ readsBack (take 15 startRecord ++ (0x0e ∷ 0x00 ∷ (rgba 0 0 0 254 ++ replicate 256 0))) (refusal 9 [])
+    -- extra bytes last: 9
+    ∷ readsBack (startRecord ++ (0 ∷ [])) (refusal 9 [])
+    ∷ []
+
+-- the comparison that judges the rows above and knows the marker
+unlike : List Case
+unlike =
+    -- another number
+    differ (0 ∷ 1 ∷ []) (0 ∷ 2 ∷ [])
+    -- one more
+    ∷ differ (0 ∷ []) (0 ∷ 1 ∷ [])
+    -- one fewer
+    ∷ differ (0 ∷ 1 ∷ []) (0 ∷ [])
     ∷ []
 
 -- all of them
 pub cases : List Case
-cases = proved ++ (compared ++ (mistaken ++ (noted ++ (recordRows ++ (edges ++ (orders ++ filled))))))
+cases =
+    proved
+    ++ (compared
+    ++ (mistaken
+    ++ (spelled
+    ++ (empty
+    ++ (edges
+    ++ (runs
+    ++ (ends
+    ++ (orders
+    ++ (stricts
+    ++ (traced
+    ++ (filled
+    ++ (steps
+    ++ (recordRows
+    ++ unlike)))))))))))))
 
 -- every case holds
 pub cases-hold : T (allHold cases)
-unfolding repeated allHold holds cases proved compared mistaken noted recordRows edges orders filled
+unfolding allHold holds cases proved compared mistaken spelled empty edges runs ends orders stricts traced filled steps
+    recordRows unlike
 cases-hold = tt

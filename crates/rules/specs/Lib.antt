@@ -9,4 +9,5 @@ pub mod Step
 pub mod Record
 pub mod Strict
 pub mod Figures
+pub mod Case
 pub mod Cases
