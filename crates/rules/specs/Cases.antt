@@ -233,6 +233,10 @@ edges =
     -- alpha that changes to 255 is RGBA
     ∷ encodes 2 1 Rgba (rgba 0 0 0 128 ++ rgba 1 0 0 255)
     (0xff ∷ 0x00 ∷ 0x00 ∷ 0x00 ∷ 0x80 ∷ 0xff ∷ 0x01 ∷ 0x00 ∷ 0x00 ∷ 0xff ∷ [])
+    -- RGBA holds the four bytes in their order
+    ∷ encodes 1 1 Rgba (rgba 10 20 30 40) (0xff ∷ 10 ∷ 20 ∷ 30 ∷ 40 ∷ [])
+    -- (0,2,0) is in slot 63, the last: INDEX 3f
+    ∷ encodes 3 1 Rgb (rgb 0 2 0 ++ (A ++ rgb 0 2 0)) (0xa2 ∷ 0x66 ∷ 0xfe ∷ 0x64 ∷ 0x00 ∷ 0x00 ∷ 0x3f ∷ [])
     -- INDEX only if the slot holds this very pixel: these five share slot 33, and each differs in one channel
     ∷ encodes 5 1 Rgba
     (rgba 100 0 0 255 ++ (rgba 36 0 0 255 ++ (rgba 36 64 0 255 ++ (rgba 36 64 64 255 ++ rgba 36 64 64 191))))
@@ -413,7 +417,11 @@ filled =
     ∷ fills (message 2 1 Rgb (0xa0 ∷ 0xa8 ∷ 0x3b ∷ [])) true
     -- and RGBA, with the real alpha of a 4-channel source
     ∷ fills (message 2 1 Rgba (0xff ∷ 0x0a ∷ 0x00 ∷ 0x00 ∷ 0x80 ∷ 0x1e ∷ [])) true
-    -- a chunk does not fill the slot that it names itself
+    -- the last slot, 63, is filled like the others
+    ∷ fills (message 2 1 Rgb (0xa2 ∷ 0x66 ∷ 0x3f ∷ [])) true
+    -- an ff that is not consumed names no slot
+    ∷ fills (headed 1 1 Rgb (0xff ∷ replicate 7 0)) true
+    -- an INDEX before the chunk that fills its slot names an empty one
     ∷ fills (message 2 1 Rgb (0x21 ∷ 0xfe ∷ 0x64 ∷ 0x00 ∷ 0x00 ∷ [])) false
     -- the marker is no INDEX
     ∷ fills (message 2 1 Rgb (0xfd ∷ [])) true
