@@ -8,7 +8,7 @@ use Rattle.pixel.specs.declared.types.Channels.{Channels}
 use Rattle.pixel.specs.declared.types.Channels.the-variants.{Rgb}
 use Rattle.pixel.specs.declared.types.ColorSpace.the-variants.{Srgb}
 use Rattle.pixel.specs.Colour.{slotOf, pixelOf, clearPixel}
-use Rattle.pixel.specs.Types.{channelsNumber}
+use Rattle.pixel.specs.Types.{channelsNumber, colorSpaceNumber}
 use Rattle.number.specs.Seven.{sevenBitsOf, sevenBits, groupBelow, readMore, readNumber}
 use Rattle.header.specs.declared.Header.{Header}
 use Rattle.header.specs.Header.{headerBytes, headerFrom, afterColorSpace, afterChannels, headerOf}
@@ -20,7 +20,7 @@ use Rattle.rules.specs.Document.{documentReading, namesFilled, filledAft
 use Rattle.rules.specs.Encode.{EncodeAnswer, encoded, notEncoded, Encoding, fitsDiff, fitsLuma, diffChunk, lumaChunk, colourChunk, startPen, runEnded, slotHolds, differingChunk, pixelChunks, penAfter, chunksFrom, chunkBytes, chunksBytes, pixelFrom, pixelsFrom, chunksOf, streamOf, encodingInto, withSpace, withCount, withDimensions, encoding}
 use Rattle.rules.specs.Step.{State, wellFormed, Started, started, notStarted, startWanted, startHeader, starting, Step, stepBy, step, steppedOver, Ran, going, ended, running}
 use Rattle.rules.specs.Record.{pixelsBytes, recordBytes, recording, recordedOver, withNumber, readEnd, readSlots, readPositions, readWanted, readRecord}
-use Rattle.rules.specs.Strict.{strictClosed, strictClosing, strictCounted, strictBy, strictMove, strictFrom, strictHeader, strict, runsFitIn, runsFit, chunkCount}
+use Rattle.rules.specs.Strict.{StrictAnswer, strictClosed, strictClosing, strictCounted, strictBy, strictMove, strictFrom, strictHeader, strict, runsFitIn, runsFit, chunkCount}
 use Rattle.rules.specs.Figures.{headerFigures, answerFigures, encodeFigures, strictFigures, numberFigures, startFigures, recordFigures, stepFigures}
 
 -- a row: what is given, and then what must come; an answer is its number and figures, and an output is lent full of ee
@@ -206,6 +206,13 @@ startIs figures bytes (notStarted e) = sameBytes (startFigures (notStarted e)) f
 startIs figures bytes (started s) =
     sameBytes (startFigures (started s)) figures && sameBytes (recordBytes s) bytes
 
+-- whether a strict answer is this one: width, height, channels, colour space, chunks, bytes; its figures are the last two
+strictIs : List ℕ → StrictAnswer → Bool
+strictIs figures (StrictAnswer.accepted h chunks bytes) =
+    sameBytes (0 ∷ h .width ∷ h .height ∷ channelsNumber (h .channels) ∷ colorSpaceNumber (h .colorspace) ∷ chunks ∷ bytes ∷ []) figures
+    && sameBytes (strictFigures (StrictAnswer.accepted h chunks bytes)) (accepted (drop 5 figures))
+strictIs figures (StrictAnswer.rejected e) = sameBytes (strictFigures (StrictAnswer.rejected e)) figures
+
 -- an output after a step; one that ends leaves it
 outputAfter : State → List ℕ → Step → List ℕ
 outputAfter s out (Step.more s′ bytes) = steppedOver s bytes out
@@ -213,7 +220,7 @@ outputAfter s out (Step.end verdict) = out
 
 -- whether a case holds of the definitions
 unfoldable pub holds : Case → Bool
-unfolding sameTest stateOf stateAfter afterRun resumed checkpointed begun encodedSize startIs outputAfter slotOf
+unfolding sameTest stateOf stateAfter afterRun resumed checkpointed begun encodedSize startIs strictIs outputAfter slotOf
     sevenBitsOf sevenBits groupBelow readMore readNumber headerBytes headerFrom afterColorSpace afterChannels headerOf
     chunkFrom chunkAt colourOf timesOf sizeOf sameBytes repeated closing startPlace pixelsBrought pixelAfter
     placeAfter bytesOf moveBy move reading readingInto withWanted withHeader wholeReading decoderStores decoderKeeps
@@ -237,7 +244,7 @@ holds (documentsInto m wanted room figures out) = readingIs room figures out (do
 holds (readsInto m wanted room bytes documentBytes) = readBoth m wanted room bytes documentBytes
 holds (leavesAfter m wanted room rest) = sameBytes (restOf m (decoding m wanted room .answer)) rest
 holds (opens m figures) = sameBytes (headerFigures (headerOf m)) figures
-holds (checks m figures) = sameBytes (strictFigures (strict m)) figures
+holds (checks m figures) = strictIs figures (strict m)
 holds (traces m fit count positions) =
     sameTest (runsFit m) fit
     && (eqb (chunkCount m) count && sameBytes (map (λ (v : Visit). v .place .at) (trace m)) positions)

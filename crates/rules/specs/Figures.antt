@@ -1,4 +1,4 @@
--- Answers as numbers: 0 or the refusal's number (256: a step with more to do), then four figures, or six of strict.
+-- Answers as numbers: 0 or the refusal's number (256: a step with more to do), then four figures.
 use mathlib.Core.List.{List, [], _∷_}
 use Prim.Native.Nat.{ℕ}
 use Rattle.pixel.specs.declared.error.Error.{Error}
@@ -33,10 +33,9 @@ abbrev pub encodeFigures : EncodeAnswer → List ℕ
 encodeFigures (encoded size) = 0 ∷ size ∷ 0 ∷ 0 ∷ 0 ∷ []
 encodeFigures (notEncoded e) = refusalFigures e
 
--- the strict check: width, height, channels, colour space, chunks, bytes
+-- the strict check: chunks, bytes
 abbrev pub strictFigures : StrictAnswer → List ℕ
-strictFigures (accepted h chunks bytes) =
-    0 ∷ h .width ∷ h .height ∷ channelsNumber (h .channels) ∷ colorSpaceNumber (h .colorspace) ∷ chunks ∷ bytes ∷ []
+strictFigures (accepted header chunks bytes) = 0 ∷ chunks ∷ bytes ∷ 0 ∷ 0 ∷ []
 strictFigures (rejected e) = refusalFigures e
 
 -- a number read: its value, the bytes that it took
