@@ -12,7 +12,7 @@ use std::path::Path;
 use std::process::ExitCode;
 use std::time::Instant;
 
-/// So many pixels are decoded by each for one line of the table, in at least so many turns.
+/// How many pixels each decodes for one line of the table, and in how many turns at least.
 const PIXELS: usize = 300_000_000;
 const TURNS: usize = 100;
 

@@ -11,11 +11,11 @@ use crate::random::Random;
 use crate::records;
 
 pub enum Cases {
-    /// Every one of so many, by its number.
+    /// Every one of n, by its number.
     All(u64, fn(&mut Check, u64)),
     /// Made at random, one or a few at a time, until there are enough.
     Some(fn(&mut Check, &mut Random)),
-    /// The same, so many times fewer, each being that much longer.
+    /// The same, n times fewer, each being that much longer.
     Fewer(u64, fn(&mut Check, &mut Random)),
 }
 
@@ -95,7 +95,7 @@ fn digit(number: &mut u64, n: u64) -> u64 {
     digit
 }
 
-/// The sequences over so many letters by number, the shorter ones first: 0 is the empty one.
+/// The sequences over n letters by number, the shorter ones first: 0 is the empty one.
 fn sequence(mut number: u64, letters: u64) -> Vec<u8> {
     let mut sequence = Vec::new();
     while number > 0 {

@@ -13,7 +13,7 @@ const MARGIN: usize = 64;
 /// So many patterns stand in memory by turns.
 const PATTERNS: usize = 1021;
 
-/// So many differences are kept: those of the shortest inputs, and of an input its first so many bytes.
+/// How many differences are kept, those of the shortest inputs, and how many bytes of an input are shown.
 const KEPT: usize = 5;
 const SHOWN: usize = 2000;
 

@@ -10,12 +10,12 @@ use crate::{messages, oracle, port};
 use std::path::Path;
 use std::process::ExitCode;
 
-/// A kind that can be run whole is run whole, unless it has more than so many times the cases that were asked for.
+/// A kind that can be run whole is run whole, unless it has more than this many times the cases that were asked for.
 const WHOLE: u64 = 8;
 
-/// Cut and damaged copies of an image are so many times fewer: each is as long as thousands of other cases.
+/// Cut and damaged copies of an image are this many times fewer: each is as long as thousands of other cases.
 const IMAGES: u64 = 100;
-/// One history more on each image, to three channels and to four, for so many cases of other kinds.
+/// One history more on each image, to three channels and to four, for this many cases of other kinds.
 const HISTORIES: u64 = 500_000;
 /// Where there are to be fewer, there are not fewer than this.
 const FEWEST: u64 = 1000;

@@ -6,7 +6,7 @@ use crate::output::{self, Next, Output, Ran, Stand};
 use crate::random::Random;
 use crate::trace::{Trace, MOST};
 
-/// At most so many workers at once.
+/// How many workers there are at once, at most.
 const WORKERS: usize = 3;
 
 struct History<'a> {
@@ -165,7 +165,7 @@ fn history(
     history.output.is_as_uncut(message, wanted, trace)
 }
 
-/// A case of a history, on a message whose picture may take so many bytes.
+/// A case of a history, on a message whose picture may take `most` bytes.
 pub fn check_history(
     check: &mut Check,
     random: &mut Random,

@@ -19,7 +19,7 @@ pub enum Next {
 }
 
 impl Next {
-    /// For a record of so many bytes.
+    /// For a record of `length` bytes.
     fn room(self, random: &mut Random, length: usize) -> usize {
         match self {
             Next::Exact => length,
@@ -38,7 +38,7 @@ pub enum Ran {
     Ended,
 }
 
-/// Where a worker stands: at the record that was written after so many steps.
+/// Where a worker stands: at the record that was written after `steps` steps.
 #[derive(Clone, Copy)]
 pub struct Stand<'a> {
     pub message: &'a [u8],
@@ -176,7 +176,7 @@ impl Output {
         self.ground.copy_from_slice(&self.memory);
     }
 
-    /// A run of at most so many steps.
+    /// A run of at most `steps` steps.
     pub fn run(
         &mut self,
         random: &mut Random,

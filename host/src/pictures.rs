@@ -76,7 +76,7 @@ fn next(random: &mut Random, rule: usize, last: [u8; 4], palette: &[[u8; 4]]) ->
     }
 }
 
-/// A picture of one texture, or of all of them mixed, with at most so many pixels.
+/// A picture of one texture, or of all of them mixed, with at most `most` pixels.
 pub fn textured(random: &mut Random, most: usize) -> Picture {
     let channels = random.between(3, 4);
     let width = random.between(1, most);

@@ -81,7 +81,7 @@ pub fn start(message: &[u8], wanted: u64, record: &mut [u8]) -> Answer {
     Answer { number, figures }
 }
 
-/// Takes up a record for at most so many steps. 0: what decode answers; `MORE`: the length of the record in `next`.
+/// Takes up a record for at most `steps` steps. 0: what decode answers; `MORE`: the length of the record in `next`.
 pub fn run(message: &[u8], record: &[u8], out: &mut [u8], steps: u64, next: &mut [u8]) -> Answer {
     let mut figures = UNWRITTEN;
     // the port reads message[..] and record[..] alone and writes out[..], next[..] and the four figures alone

@@ -83,7 +83,7 @@ impl Reader<'_> {
         }
         let (first, rest) = self.0.split_at(N);
         self.0 = rest;
-        Ok(first.try_into().expect("so many"))
+        Ok(first.try_into().expect("as many as were asked for"))
     }
 
     /// The last byte of the shortest form is 00 for the number 0 alone, and a tenth byte 01 always.

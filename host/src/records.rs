@@ -8,7 +8,7 @@ use crate::random::Random;
 use crate::record::{put_number, Record};
 use crate::trace::{Trace, MOST};
 
-/// So many records are damaged in every byte, each of at most so many bytes.
+/// How many records are damaged in every byte, and how many bytes each has at most.
 pub const FEW: u64 = 8;
 pub const LONGEST: u64 = 290;
 

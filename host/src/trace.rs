@@ -6,7 +6,7 @@ use crate::record::Record;
 /// No output of a case is longer, but those of the images.
 pub const MOST: u64 = 1 << 18;
 
-/// Where the decode stands after so many steps, and whether the last of them stored its pixel.
+/// Where the decode stands after n steps, and whether the last of them stored its pixel.
 struct Place {
     at: usize,
     pixel: usize,
@@ -93,17 +93,17 @@ impl Trace {
         self.places.len() - 1
     }
 
-    /// The pixel position after so many steps.
+    /// The pixel position after `steps` steps.
     pub fn pixel(&self, steps: usize) -> usize {
         self.places[steps].pixel
     }
 
-    /// The output's bytes before the pixel position after so many steps.
+    /// The output's bytes before the pixel position after `steps` steps.
     pub fn bytes(&self, steps: usize) -> usize {
         self.pixel(steps) * self.wanted as usize
     }
 
-    /// The pixels of the picture that are missing after so many steps.
+    /// The pixels of the picture that are missing after `steps` steps.
     pub fn missing(&self, steps: usize) -> usize {
         self.written.len() / self.wanted as usize - self.pixel(steps)
     }
@@ -118,7 +118,7 @@ impl Trace {
         current
     }
 
-    /// The record to be written after so many steps.
+    /// The record to be written after `steps` steps.
     pub fn record(&self, steps: usize) -> Record {
         let mut slots = [[0; 4]; 64];
         for place in self.places[..=steps].iter().filter(|p| p.is_stored) {

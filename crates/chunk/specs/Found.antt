@@ -35,7 +35,7 @@ unfoldable pub endingAt : List ℕ → Ending
 endingAt part =
     cond (ltb (length part) 8) ending.Cut (cond (sameBytes (take 8 part) marker) ending.Marker ending.Wrong)
 
--- the answer that an ending gives at a byte position, for so many bytes written
+-- the answer that an ending gives at a byte position, for `size` bytes written
 abbrev pub closedBy : ℕ → ℕ → Ending → Answer
 closedBy size at ending.Cut = refused UnexpectedBufferEnd
 closedBy size at ending.Wrong = refused InvalidPadding

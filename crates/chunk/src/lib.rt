@@ -38,7 +38,7 @@ pub enum Found {
     Cut,
     // The pixel of that slot.
     Index(u8),
-    // The previous pixel, so many times.
+    // The previous pixel, that number of times.
     Run(u8),
     Colour(Colour),
 }

@@ -34,7 +34,7 @@ abbrev pub bufBytes : List ℕ → ℕ → HeaderRead → List ℕ
 bufBytes message room (header-read.Refused e) = []
 bufBytes message room (header-read.Ok header) = decoding message (channelsNumber (header .channels)) room .bytes
 
--- where the rest of a message of so many bytes begins: after the bytes used, or at its end
+-- where the rest of a message of `size` bytes begins: after the bytes used, or at its end
 abbrev pub restAt : ℕ → Answer → ℕ
 restAt size (done written used) = min used size
 restAt size (refused e) = size

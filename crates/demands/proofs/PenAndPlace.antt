@@ -28,7 +28,7 @@ use Rattle.rules.proofs.PenLaws.{Ended, no-run, as-index, as-run, ended, Differ
 use Rattle.rules.proofs.ChunkLaws.{slot-small}
 use Rattle.rules.proofs.EncodeLaws.{Writable, Whole, start-whole, chunk-read-back, chunk-length, pixel-is, same-is, colour-chosen}
 
--- what a way does to read an encoder's chunks with so many channels: it keeps whole pixels as they are, stores what the decoder stores, and reads RGBA where there are not three channels
+-- what a way does to read an encoder's chunks: it keeps whole pixels as they are, stores what the decoder stores, and reads RGBA where there are not three channels
 pub record Reads (way : Way) (n : ℕ) : Type 0 where
   pub keeps-is : (p : Pixel) → Whole n p → way .keeps n p ≡ p
   pub stores-is : (k : Chunk) → decoderStores k ≡ true → way .stores k ≡ true
@@ -123,7 +123,7 @@ start-meets n =
     }
 
 module _ (way : Way) (header : Header) (wanted : ℕ) (message : List ℕ) where
-  -- so many times a pixel is read from a place, the rest of the message follows, and the pen is met where that leads
+  -- a pixel is read n times from a place, the rest of the message follows, and the pen is met where that leads
   pub record Reached (slots : List Pixel) (previous : Pixel) (differed : Bool) (place : Place) (times : ℕ) (p : Pixel) (rest : List ℕ) : Type 0 where
     pub next : Place
     pub read :

@@ -93,7 +93,7 @@ module _ (m : List ℕ) where
           let answers : a ≡ answer = cc in
           rw (← same, ← kept, ← answers) (end-changes-nothing s o a is k)
 
-  -- so many steps and then so many are their sum
+  -- n steps and then k are n + k
   pub run-adds : (n k : ℕ) (s : State) (o : List ℕ) → running m (n + k) s o ≡ runningOn m k (running m n s o)
   unfolding running
   run-adds zero k s o = rw zero-add

@@ -48,7 +48,7 @@ none-left pixel count = go (ltb pixel count) refl
     go false e = eq-eqb (count - pixel) 0 (omega (arith, ltb-false))
 
 module _ (header : Header) (message : List ℕ) (wanted : ℕ) where
-  -- what the strict check says, after so many chunks, of a part of a reading that ends so and of the chunks in it
+  -- what the strict check says, after `chunks` chunks, of a part of a reading that ends so and of the chunks in it
   data Verdict (chunks : ℕ) (says : StrictAnswer) (ends : Answer) (read : List Visit) : Type 0 where
     passes :
         says ≡ accepted header (chunks + length read) (length message) → ends ≡ done (sizeWanted header wanted) (length message)

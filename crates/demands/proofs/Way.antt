@@ -165,7 +165,7 @@ module _ (m : List ℕ) (w : ℕ) where
     pub within : s .place .pixel ≤ pixelCount (s .header)
     within = leb→le (s .place .pixel) (pixelCount (s .header)) (formed s (on .well) .pixel-passes)
 
-    -- into so many bytes as the picture needs the uncut decode is the whole reading
+    -- into all the bytes that the picture needs the uncut decode is the whole reading
     pub uncut-whole : (room : ℕ) → needed s ≤ room → decoding m w room ≡ whole
     unfolding readingInto wholeFrom
     uncut-whole room fits =

@@ -16,7 +16,7 @@ pub record ReadBack (picture stream : List ℕ) (wanted : ℕ) : Type 0 where
   pub document-is : (room : ℕ) → length picture ≤ room → documentReading stream wanted room ≡ pictureRead picture stream
   pub decoder-is : (room : ℕ) → length picture ≤ room → decoding stream wanted room ≡ pictureRead picture stream
 
--- what is true of an encode that wrote so many bytes: they are all of its bytes, they fit its room, and they are read back at the picture's channels
+-- what is true of an encode that wrote `size` bytes: they are all of its bytes, they fit its room, and they are read back at the picture's channels
 pub record Encoded (picture stream : List ℕ) (channels room size : ℕ) : Type 0 where
   pub all : size ≡ length stream
   pub fits : size ≤ room

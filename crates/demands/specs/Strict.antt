@@ -16,7 +16,7 @@ use Rattle.rules.specs.Strict.{accepted, strict, runsFit, chunkCount}
 -- what is so of a message that the strict check accepts, with its figures
 pub record Passes (m : List ℕ) (header : Header) (chunks bytes : ℕ) : Type 0 where
   pub reads : headerOf m ≡ header-read.Ok header
-  -- a decode accepts it, at 3 and at 4 channels, into any room that is enough, and uses so many bytes
+  -- a decode accepts it, at 3 and at 4 channels, into any room that is enough, and uses `bytes` bytes
   pub decodes :
       (c : Channels) (room : ℕ) → sizeWanted header (channelsNumber c) ≤ room
       → decoding m (channelsNumber c) room .answer ≡ done (sizeWanted header (channelsNumber c)) bytes

@@ -36,7 +36,7 @@ abbrev pub EndsAsUncut : List ℕ → ℕ → List ℕ → Ran → Type 0
 EndsAsUncut m w b run =
     (last : State) × (run ≡ ended (decoding m w (length b) .answer) last (writtenOver (decoding m w (length b) .bytes) b))
 
--- so many steps more, where a run has not ended
+-- k steps more, where a run has not ended
 abbrev pub runningOn : List ℕ → ℕ → Ran → Ran
 runningOn m k (going s o) = running m k s o
 runningOn m k (ended answer s o) = ended answer s o

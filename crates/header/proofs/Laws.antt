@@ -183,7 +183,7 @@ big-endian-written-back n a b c d is ha hb hc hd =
     ap bigEndianBytes packed
     ∙ ap {B = List ℕ} (λ p. alpha p ∷ blue p ∷ green p ∷ red p ∷ []) (unpacked-packed d c b a hd hc hb ha)
 
--- so many bytes from a place on, one by one
+-- the bytes from a place on, one by one
 abbrev bytesFrom : List ℕ → ℕ → ℕ → List ℕ
 bytesFrom bytes at zero = []
 bytesFrom bytes at (suc n) = getD bytes at 0 ∷ bytesFrom bytes (suc at) n

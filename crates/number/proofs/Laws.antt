@@ -123,7 +123,7 @@ read-written n rest fits =
 pub rest-after-written : (n : ℕ) (rest : List ℕ) → drop (length (sevenBits n)) (sevenBits n ++ rest) ≡ rest
 rest-after-written n rest = drop-append-seam (sevenBits n) rest
 
--- what is read lies below a limit, and took at least one and at most so many of the bytes
+-- what is read lies below a limit, and took at least one and at most `most` of the bytes
 abbrev pub Within : ℕ → ℕ → List ℕ → NumberRead → Type 0
 Within limit most bytes (read.Number value used) = (value < limit) × (1 ≤ used) × (used ≤ most) × (used ≤ length bytes)
 Within limit most bytes (read.Refused e) = Unit {0}

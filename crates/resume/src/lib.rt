@@ -102,7 +102,7 @@ impl Decoder {
         running::run(self, message, out, 1)
     }
 
-    // At most so many steps: what a worker does between two checkpoints.
+    // At most `steps` steps: what a worker does between two checkpoints.
     pub fn run(self, message: &[u8], out: &mut [u8], steps: u64) -> Stepped
         ensures { λ r. ⌜ ranOf r (now (out .exit)) ≡ running (now (message .entry)) steps (stateOf self) (now (out .entry)) ⌝ }
     {

@@ -17,7 +17,7 @@ use pixel::error::Error;
 use pixel::types::Channels;
 use walk::Place;
 
-// At most so many steps: 9, 7, 1 for a byte position past the message, then the chunks.
+// At most `steps` steps: 9, 7, 1 for a byte position past the message, then the chunks.
 pub fn run(decoder: Decoder, message: &[u8], out: &mut [u8], steps: u64) -> Stepped
     ensures { λ r. ⌜ ranOf r (now (out .exit)) ≡ running (now (message .entry)) steps (stateOf decoder) (now (out .entry)) ⌝ }
 {

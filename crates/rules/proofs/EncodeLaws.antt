@@ -119,7 +119,7 @@ same-is p q four four′ e =
     ∙ parts-same (eqb-true _ _ (first .0)) (eqb-true _ _ (second .0)) (eqb-true _ _ (third .0)) (eqb-true _ _ (third .1))
     ∙ sym (pixel-is q four′)
 
--- a pixel of a picture with so many channels: four numbers, its colours bytes, and with three channels opaque
+-- a pixel of a picture with n channels: four numbers, its colours bytes, and with three channels opaque
 pub record Whole (n : ℕ) (p : Pixel) : Type 0 where
   pub four : length (p .rgba) ≡ 4
   pub red-byte : red p < 256

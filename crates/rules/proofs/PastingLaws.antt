@@ -58,7 +58,7 @@ pasted-next out at x y fits =
 pub pasted-none : (out : List ℕ) (at : ℕ) → pasted at [] out ≡ out
 pasted-none out at = simp add-zero (take-append-drop at out)
 
--- bytes written so many times over are so many times as many
+-- bytes written n times over are n times as many
 pub repeated-length : (n : ℕ) (bytes : List ℕ) → length (repeated n bytes) ≡ n * length bytes
 unfolding repeated
 repeated-length zero bytes = sym (zero-mul (length bytes))

@@ -52,7 +52,7 @@ pixels-whole (suc n) channels bytes are = (
   pixels-whole n channels (drop channels bytes) (λ i. rw (getD-drop channels bytes i 0) (are (channels + i))),
 )
 
--- and so many
+-- and there are n of them
 pub pixels-count : (n channels : ℕ) (bytes : List ℕ) → length (pixelsFrom n channels bytes) ≡ n
 unfolding pixelsFrom
 pixels-count zero channels bytes = refl

@@ -17,7 +17,7 @@ use Rattle.rules.proofs.ChunkLaws.{Sound, SoundFound, nothing, somethin
 use Rattle.rules.proofs.PastingLaws.{repeated-length}
 use Rattle.rules.specs.Reading.{Way, Place, Answer, Move, Reading, more, end, ended, after, remaining, playedAfter, readOn, playOn, repeated, closing, sizeWanted, pixelsBrought, pixelAfter, placeAfter, bytesOf, moveBy, move, played, reading}
 
--- bytes written so many times over are at most so many times their bound
+-- bytes written n times over are at most n times their bound
 repeated-size : (n : ℕ) (bytes : List ℕ) {bound : ℕ} → length bytes ≤ bound → length (repeated n bytes) ≤ n * bound
 repeated-size n bytes fits = rw (repeated-length n bytes) (mul-le-mul-left n fits)
 

@@ -78,7 +78,7 @@ refusal number figures = answer number figures
 abbrev pub onward : ℕ → ℕ → ℕ → List ℕ
 onward at pixel wanted = answer 256 (at ∷ pixel ∷ wanted ∷ [])
 
--- so many bytes of an output that were not written
+-- bytes of an output that were not written
 abbrev pub held : ℕ → List ℕ
 held size = replicate size 0xee
 
@@ -146,7 +146,7 @@ stateOf : Ran → State
 stateOf (going s out) = s
 stateOf (ended verdict s out) = s
 
--- the state after so many steps from a picture's start
+-- the state after n steps from a picture's start
 pub stateAfter : ℕ → ℕ → ℕ → Channels → ℕ → List ℕ → State
 stateAfter steps width height channels wanted chunks =
     let s = startState width height channels wanted in

@@ -9,7 +9,7 @@ use Rattle.rules.specs.Reading.{marker, repeated}
 use Rattle.rules.specs.Record.{recordBytes}
 use Rattle.rules.specs.Case.{Case, streams, encodesInto, decodesInto, documentsInto, opens, checks, traces, fills, starts, stepsOn, counts, countsBack, records, readsBack, takesUp, differ, accepted, refusal, onward, held, rgb, rgba, headed, message, encodes, decodes, documents, reads, leaves, stateAt, startState, stateAfter, holds, allHold}
 
--- so many black pixels of three channels
+-- black pixels of three channels
 abbrev black : ℕ → List ℕ
 black pixels = replicate (pixels * 3) 0
 

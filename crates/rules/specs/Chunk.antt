@@ -26,7 +26,7 @@ pub data Found : Type 0 where
   cut : Found
   chunk : Chunk → Found
 
--- a chunk that needs so many bytes after its first
+-- a chunk that needs n bytes after its first
 abbrev pub needing : ℕ → List ℕ → Chunk → Found
 needing n rest k = cond (leb n (length rest)) (chunk k) cut
 

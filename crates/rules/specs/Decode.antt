@@ -31,7 +31,7 @@ decoderReadsRgba channels = eqb channels 4
 abbrev pub decoder : Way
 decoder = record { stores = decoderStores; keeps = decoderKeeps; readsRgba = decoderReadsRgba }
 
--- the uncut decode of a message at wanted channels into so many bytes
+-- the uncut decode of a message at wanted channels into `room` bytes
 abbrev pub decoding : List ℕ → ℕ → ℕ → Reading
 decoding message wanted room = wholeReading decoder message wanted room
 

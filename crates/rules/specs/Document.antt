@@ -27,7 +27,7 @@ documentReadsRgba channels = true
 abbrev pub document : Way
 document = record { stores = documentStores; keeps = documentKeeps; readsRgba = documentReadsRgba }
 
--- the document's reading of a message, written out with so many channels; the header's tests, the pixel limit and the marker test are the decoder's, runs are clipped and bytes after the marker ignored
+-- the document's reading of a message, written out with the wanted channels; the header's tests, the pixel limit and the marker test are the decoder's, runs are clipped and bytes after the marker ignored
 abbrev pub documentReading : List ℕ → ℕ → ℕ → Reading
 documentReading message wanted room = wholeReading document message wanted room
 

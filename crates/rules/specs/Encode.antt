@@ -127,7 +127,7 @@ unfoldable pub pixelFrom : ℕ → List ℕ → Pixel
 pixelFrom channels bytes =
     pixelOf (getD bytes 0 0) (getD bytes 1 0) (getD bytes 2 0) (cond (eqb channels 3) 255 (getD bytes 3 0))
 
--- so many pixels
+-- n pixels
 unfoldable pub pixelsFrom : ℕ → ℕ → List ℕ → List Pixel
 pixelsFrom zero channels bytes = []
 pixelsFrom (suc n) channels bytes = pixelFrom channels bytes ∷ pixelsFrom n channels (drop channels bytes)
@@ -181,7 +181,7 @@ module _ (picture : List ℕ) (room : ℕ) where
       (withCount header colorspace (channelsFrom (length picture / pixelCount header)))
       (nothingEncoded (InvalidImageLength (length picture) (header .width) (header .height)))
 
--- encoding a picture of these dimensions and this colour space into so many bytes: 5, 6, 2, 3, 7
+-- encoding a picture of these dimensions and this colour space into `room` bytes: 5, 6, 2, 3, 7
 unfoldable pub encoding : List ℕ → ℕ → ℕ → ℕ → ℕ → Encoding
 encoding picture width height colorspace room =
     withDimensions picture room colorspace

@@ -87,7 +87,7 @@ sameBytes [] (y ∷ ys) = false
 sameBytes (x ∷ xs) [] = false
 sameBytes (x ∷ xs) (y ∷ ys) = eqb x y && sameBytes xs ys
 
--- bytes written so many times over
+-- bytes written n times over
 unfoldable pub repeated : ℕ → List ℕ → List ℕ
 repeated zero bytes = []
 repeated (suc n) bytes = bytes ++ repeated n bytes
@@ -147,7 +147,7 @@ module _ (way : Way) (header : Header) (wanted : ℕ) (message : List ℕ) where
       (moveBy way header wanted place (chunkAt (way .readsRgba (channelsNumber (header .channels))) (drop (place .at) message)))
       (end (closing (sizeWanted header wanted) message (place .at)))
 
-  -- at most so many moves
+  -- at most n moves
   unfoldable pub played : ℕ → Place → Played
   played zero place = going place []
   played (suc n) place = playOn (played n) (move place)
@@ -161,7 +161,7 @@ module _ (way : Way) (header : Header) (wanted : ℕ) (message : List ℕ) where
   abbrev pub remaining : Place → Reading
   remaining place = reading (pixelCount header - place .pixel) place
 
-  -- the reading of a message whose header is known, into so many bytes: 7, then the chunks
+  -- the reading of a message whose header is known, into `room` bytes: 7, then the chunks
   unfoldable pub readingInto : ℕ → Reading
   readingInto room =
       cond (ltb room (sizeWanted header wanted)) (silent (refused (OutputBufferTooSmall room (sizeWanted header wanted))))

@@ -41,7 +41,7 @@ pub data Recorded : Type 0 where
   recorded : ℕ → Recorded
   notRecorded : Error → Recorded
 
--- writing a record into so many bytes: 9, 7 with its length
+-- writing a record into `room` bytes: 9, 7 with its length
 unfoldable pub recording : State → ℕ → Recorded
 recording s room =
     cond (wellFormed s)

@@ -1,4 +1,4 @@
--- Steps: the state that moves on by value, when it is well formed, a start, one step, and so many steps.
+-- Steps: the state that moves on by value, when it is well formed, a start, one step, and n steps.
 use mathlib.Core.Bool.{Bool, cond, not, _&&_, _||_}
 use mathlib.Core.List.{List}
 use mathlib.Core.Path.{_≡_}
@@ -87,7 +87,7 @@ unfoldable pub stepBy : State → Move → Step
 stepBy s (Move.more place bytes) = more (record { header = s .header; wanted = s .wanted; place = place }) bytes
 stepBy s (Move.end answer) = end answer
 
--- a step into an output of so many bytes: 9, 7, then the chunk (a byte position past the message has none: 1)
+-- a step into an output of `room` bytes: 9, 7, then the chunk (a byte position past the message has none: 1)
 unfoldable pub step : State → List ℕ → ℕ → Step
 step s message room =
     cond (wellFormed s)
@@ -110,7 +110,7 @@ abbrev pub runOn : (State → List ℕ → Ran) → State → List ℕ → Step 
 runOn next s out (more s′ bytes) = next s′ (steppedOver s bytes out)
 runOn next s out (end answer) = ended answer s out
 
--- at most so many steps; none tests nothing
+-- at most n steps; none tests nothing
 unfoldable pub running : List ℕ → ℕ → State → List ℕ → Ran
 running message zero s out = going s out
 running message (suc n) s out = runOn (running message n) s out (step s message (length out))

@@ -36,7 +36,7 @@ module _ (header : Header) (message : List ℕ) where
       cond (ltb (place .pixel) (pixelCount header))
       (chunkAt (decoderReadsRgba (ownChannels header)) (drop (place .at) message)) cut
 
-  -- at most so many chunks
+  -- at most `left` chunks
   unfoldable pub visits : ℕ → Place → List Visit
   visits zero place = []
   visits (suc left) place = visitsOn header (visits left) place (chunkDue place)

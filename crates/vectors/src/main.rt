@@ -58,7 +58,7 @@ fn next_page(before: Tally) -> Turn {
     }
 }
 
-// A proved loop has to end, and nothing says that a list does: it is read for at most so many pages.
+// A proved loop has to end, and nothing says that a list does: it is read for a bounded number of pages.
 fn main() {
     let mut tally = Tally::new();
     let mut pages: u32 = 0x1_0000;

@@ -90,7 +90,7 @@ standing-still header wanted message from zero place out none = refl
 standing-still header wanted message from (suc n) place out none = rw (le-ltb (place .pixel) (pixelCount header) none)
 
 module _ (wanted : ℕ) (message : List ℕ) (source : Channels) (from missing : ℕ) where
-  -- a header of that source with so many pixels missing after the first ones
+  -- a header of that source with `missing` pixels after the first ones
   pub record Of (header : Header) : Type 0 where
     pub counted : pixelCount header ≡ from + missing
     pub sourced : header .channels ≡ source

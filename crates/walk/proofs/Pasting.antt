@@ -1,4 +1,4 @@
--- Bytes put into an output at a place: one after another, and so many times over.
+-- Bytes put into an output at a place: one after another, and n times over.
 -- Assumes nothing.
 use mathlib.Core.Path.{_≡_, sym, _∙_, ap}
 use mathlib.Core.List.{List, [], _∷_, _++_, append-assoc, append-nil}
@@ -20,7 +20,7 @@ pub stored-four :
     → set (set (set (set out at a) (at + 1) b) (at + 2) c) (at + 3) d ≡ pasted at (a ∷ b ∷ c ∷ d ∷ []) out
 stored-four out at a b c d fits = simp towards-suc (simp towards-suc at (stored (a ∷ b ∷ c ∷ d ∷ []) out at fits))
 
--- so many times over, one more at the end
+-- n times over, one more at the end
 pub repeated-more : (n : ℕ) (bytes : List ℕ) → repeated n bytes ++ bytes ≡ repeated (suc n) bytes
 unfolding repeated
 repeated-more zero bytes = sym (append-nil bytes)

@@ -27,7 +27,7 @@ pub record Walk : Type 0 where
 abbrev pub walkOf : Walked → List ℕ → Walk
 walkOf w out = record { cut = w .cut; left = w .left; place = placeOf (w .place); out = out }
 
--- it stands, with so many more allowed
+-- it stands, with `left` more allowed
 abbrev pub standing : ℕ → rules.Place → List ℕ → Walk
 standing left place out = record { cut = false; left = left; place = place; out = out }
 
@@ -41,7 +41,7 @@ module _ (header : Header) (wanted : ℕ) (message : List ℕ) (from : ℕ) wher
   walkOn next left place out (more place′ bytes) = next place′ (pasted ((place .pixel - from) * wanted) bytes out)
   walkOn next left place out (end answer) = stopped left place out
 
-  -- at most so many chunks, while a pixel is missing
+  -- at most n chunks, while a pixel is missing
   unfoldable pub walking : ℕ → rules.Place → List ℕ → Walk
   walking zero place out = standing 0 place out
   walking (suc n) place out =
@@ -56,7 +56,7 @@ fits header wanted size steps at pixel room =
     && (leb pixel (pixelCount header)
     && (leb steps (pixelCount header + 1) && leb ((pixelCount header - pixel) * wanted) room)))
 
--- at most so many chunks where the input fits, and else none
+-- at most `steps` chunks where the input fits, and else none
 unfoldable pub walkingInto : Header → ℕ → List ℕ → ℕ → rules.Place → List ℕ → Walk
 walkingInto header wanted message steps place out =
     cond (fits header wanted (length message) steps (place .at) (place .pixel) (length out))

@@ -13,7 +13,7 @@ use chunk::Found;
 use header::Header;
 use pixel::packed;
 
-// At most so many chunks from a place. `limit` is where the pixel position would be if each chunk left brought one pixel, so that only a
+// At most `steps` chunks from a place. `limit` is where the pixel position would be if each chunk left brought one pixel, so that only a
 // run has to count.
 pub fn walk_four(
     message: &[u8],
@@ -101,7 +101,7 @@ fn put_four(out: &mut [u8], at: usize, p: u32)
     out[at + 3] = packed::alpha(p);
 }
 
-// Writes a pixel's four bytes so many times.
+// Writes a pixel's four bytes `times` times.
 fn fill_four(out: &mut [u8], at: usize, times: usize, p: u32)
     requires { ⌜ at + times * 4 ≤ length (now out) ⌝ }
     ensures { λ _. ⌜ now (out .exit) ≡ pasted at (repeated times (fourBytes (unpacked p))) (now (out .entry)) ⌝ }

@@ -1,4 +1,4 @@
-// The chunks of a decode, from any place and at most so many: the hot loops.
+// The next n chunks of a decode, from any place: the hot loops.
 ghost use mathlib.Core.Path.{_≡_};
 ghost use Rattle.pixel.specs.Types.{channelsNumber};
 ghost use Rattle.walk.specs.Walking.{placeOf, walkOf, fits, walkingInto};
@@ -25,7 +25,7 @@ pub struct Walked {
     pub place: Place,
 }
 
-// Does at most so many chunks from a place, into the part of the output that starts at its pixel. Where the input does not fit, it does none.
+// Does at most `steps` chunks from a place, into the part of the output that starts at its pixel. Where the input does not fit, it does none.
 pub fn walk(
     message: &[u8],
     header: Header,

@@ -13,7 +13,7 @@ use chunk::Found;
 use header::Header;
 use pixel::packed;
 
-// At most so many chunks from a place. `limit` is where the pixel position would be if each chunk left brought one pixel, so that only a
+// At most `steps` chunks from a place. `limit` is where the pixel position would be if each chunk left brought one pixel, so that only a
 // run has to count.
 pub fn walk_three(
     message: &[u8],
@@ -98,7 +98,7 @@ fn put_three(out: &mut [u8], at: usize, p: u32)
     out[at + 2] = packed::blue(p);
 }
 
-// Writes a pixel's three bytes so many times.
+// Writes a pixel's three bytes `times` times.
 fn fill_three(out: &mut [u8], at: usize, times: usize, p: u32)
     requires { ⌜ at + times * 3 ≤ length (now out) ⌝ }
     ensures { λ _. ⌜ now (out .exit) ≡ pasted at (repeated times (threeBytes (unpacked p))) (now (out .entry)) ⌝ }
