@@ -4,8 +4,8 @@ use mathlib.Core.Path.{_≡_, sym, _∙_, ap}
 use mathlib.Core.List.{List}
 use Prim.Native.Nat.{ℕ, _+_}
 use lib.ListN.{take}
-use Rattle.rules.specs.Step.{State, steppedOver, going, runOn, running}
-use Rattle.demands.specs.TakeOver.{bytesBefore, Life, taken-up, runningOn, outputOf}
+use Rattle.rules.specs.Step.{State, steppedOver, going, runOn, running, outputOf}
+use Rattle.demands.specs.TakeOver.{bytesBefore, Life, taken-up, runningOn}
 use Rattle.demands.specs.Inside.{StoppedInside}
 use Rattle.demands.proofs.Steps.{run-adds, run-keeps-before}
 use Rattle.demands.proofs.Partly.{partly-take}

@@ -7,14 +7,11 @@ use native.Mathlib.Omega.{arith}
 use borrow.Author.Tests.{le-ltb}
 use lib.Dec.{T}
 use lib.ListN.{length}
-use Rattle.pixel.specs.declared.types.Channels.{Channels}
-use Rattle.pixel.specs.declared.types.Channels.the-variants.{Rgb, Rgba}
-use Rattle.pixel.specs.declared.types.ChannelsRead.the-variants as channels-read
 use Rattle.pixel.specs.Bytes.{AllBytes}
-use Rattle.pixel.specs.Types.{channelsNumber, channelsFrom}
+use Rattle.pixel.specs.Types.{channelsNumber}
 use Rattle.header.specs.declared.Header.{Header}
 use Rattle.header.specs.Header.{pixelCount, dimensionsFit}
-use Rattle.header.proofs.Laws.{channels-number}
+use Rattle.header.proofs.Laws.{channels-number, channels-read-back}
 use Rattle.rules.specs.Reading.{Way, repeated, sizeWanted, startPlace, remaining, readingInto, withWanted, withHeader, wholeReading}
 use Rattle.rules.specs.Decode.{decoder}
 use Rattle.rules.specs.Document.{document}
@@ -25,11 +22,6 @@ use Rattle.demands.proofs.PixelsRead.{pixels-read}
 use Rattle.demands.proofs.Traced.{stream-opens, chunks-stand}
 use Rattle.demands.proofs.Wrote.{encode-wrote}
 use Rattle.demands.proofs.PenAndPlace.{Reads, document-reads, decoder-reads, start-meets}
-
--- their number stands for them
-channels-back : (c : Channels) → channelsFrom (channelsNumber c) ≡ channels-read.Ok c
-channels-back Rgb = refl
-channels-back Rgba = refl
 
 module _ (header : Header) (picture : List ℕ) (fit : T (dimensionsFit (header .width) (header .height)))
     (size : length picture ≡ pixelCount header * channelsNumber (header .channels)) (bytes : AllBytes picture) where
@@ -54,7 +46,7 @@ module _ (header : Header) (picture : List ℕ) (fit : T (dimensionsFit (header 
         → wholeReading way (streamOf header picture) (channelsNumber (header .channels)) room ≡ pictureRead picture (streamOf header picture)
     unfolding wholeReading withHeader withWanted readingInto
     stream-read room fits =
-        rw (stream-opens header picture fit, channels-back (header .channels), le-ltb room (sizeWanted header (channelsNumber (header .channels))) (omega arith))
+        rw (stream-opens header picture fit, channels-read-back (header .channels), le-ltb room (sizeWanted header (channelsNumber (header .channels))) (omega arith))
         chunks-read
 
   -- the document's reading of the stream at the header's channels is the picture, and so is the decoder's
@@ -72,9 +64,9 @@ pub encode-reads-back :
     → Encoded picture (encoding picture width height colorspace room .bytes) (length picture / (width * height)) room size
 encode-reads-back picture width height colorspace room size bytes e =
     let wrote = encode-wrote picture width height colorspace room size e in
-    let back = reads-back (wrote .header) picture (wrote .fit) (wrote .needed) bytes in
+    let back = reads-back (wrote .header) picture (wrote .picture-is .fit) (wrote .picture-is .needed) bytes in
     record {
       all = wrote .all;
-      fits = omega (arith, ap length (wrote .stream-is), stream-fits (wrote .header) picture (wrote .fit) bytes);
+      fits = omega (arith, ap length (wrote .stream-is), stream-fits (wrote .header) picture (wrote .picture-is .fit) bytes);
       back = rw (wrote .stream-is) (rw (channels-number (length picture / (width * height)) (wrote .header .channels) (wrote .channels-are)) at back);
     }

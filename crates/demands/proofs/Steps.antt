@@ -11,12 +11,12 @@ use Rattle.header.specs.Header.{pixelCount}
 use Rattle.rules.specs.Chunk.{Chunk}
 use Rattle.rules.specs.Reading.{Answer, Move}
 use Rattle.rules.specs.Decode.{decoder}
-use Rattle.rules.specs.Step.{State, Step, more, end, step, steppedOver, ended, runOn, running}
+use Rattle.rules.specs.Step.{State, Step, more, end, step, steppedOver, going, ended, runOn, running, outputOf}
 use Rattle.rules.proofs.ChunkLaws.{Sound}
 use Rattle.rules.proofs.PastingLaws.{before-pasted}
 use Rattle.rules.proofs.ReadingLaws.{advances}
 use Rattle.rules.proofs.StepLaws.{nextState, bytesBy, moveFrom, needed, Kind, not-well, no-room, at-end, by-chunk, kind}
-use Rattle.demands.specs.TakeOver.{bytesBefore, runningOn, outputOf}
+use Rattle.demands.specs.TakeOver.{bytesBefore, runningOn}
 
 -- an end does not go on
 pub end-is-not-more : {answer : Answer} {s : State} {bytes : List ℕ} → end answer ≡ more s bytes → ⊥
@@ -104,6 +104,29 @@ module _ (m : List ℕ) where
           → (v : Step) → runOn (running m (n + k)) s o v ≡ runningOn m k (runOn (running m n) s o v)
       go adds (more s′ bytes) = adds s′ (steppedOver s bytes o)
       go adds (end answer) = refl
+
+  -- a run of n steps that has more to do has brought at least n pixels of the same picture
+  pub run-further :
+      (n : ℕ) (s : State) (o : List ℕ) (s′ : State) (o′ : List ℕ) → running m n s o ≡ going s′ o′
+      → (s .place .pixel + n ≤ s′ .place .pixel) × (s .header ≡ s′ .header)
+  unfolding running
+  run-further zero s o s′ o′ e =
+      let same : s ≡ s′ = cc in
+      rw (← same) (omega arith, refl)
+  run-further (suc n) s o s′ o′ e =
+      go (λ t bytes e′. run-further n t (steppedOver s bytes o) s′ o′ e′) (step s m (length o)) refl e
+    where
+      go :
+          ((t : State) (bytes : List ℕ) → running m n t (steppedOver s bytes o) ≡ going s′ o′
+          → (t .place .pixel + n ≤ s′ .place .pixel) × (t .header ≡ s′ .header))
+          → (v : Step) → step s m (length o) ≡ v → runOn (running m n) s o v ≡ going s′ o′
+          → (s .place .pixel + suc n ≤ s′ .place .pixel) × (s .header ≡ s′ .header)
+      go further (more t bytes) is e =
+          let c = went-on m s (length o) t bytes is in
+          let moved = advances decoder (s .header) (s .wanted) (s .place) (c .done) (c .sound .once) (c .missing) in
+          let rest = rw (← c .next) at (further t bytes e) in
+          (omega (arith, moved, rest .0), rest .1)
+      go further (end answer) is e = absurd (let z : _≡_ {A = ℕ} 0 1 = cc in omega arith)
 
   -- a run never changes a byte before the pixel that it began at
   pub run-keeps-before :

@@ -19,44 +19,43 @@ use Rattle.rules.specs.Document.{indexesFilled}
 use Rattle.rules.specs.Encode.{chunksOf, streamOf, pixelsFrom, encoded, encoding}
 use Rattle.rules.proofs.PictureLaws.{every-byte, pixels-whole}
 use Rattle.demands.specs.Streams.{PictureOf, StrictAccepts, KeepsFilled, WroteStrictly}
-use Rattle.demands.proofs.Strict.{strict-accepts, strict-must-accept}
+use Rattle.demands.proofs.Strict.{strict-must-accept}
 use Rattle.demands.proofs.Traced.{visits-count, visits-fit, stream-opens, stream-times, stream-traced}
 use Rattle.demands.proofs.Filled.{start-filled}
 use Rattle.demands.proofs.ReadBack.{reads-back}
 use Rattle.demands.proofs.Wrote.{encode-wrote}
 
-module _ (header : Header) (picture : List ℕ) (of : PictureOf header picture) where
+module _ (header : Header) (picture : List ℕ) (of : PictureOf header picture) (bytes : AllBytes picture) where
   -- no run of a stream is longer than the pixels left
   stream-runs-fit : T (runsFit (streamOf header picture))
   stream-runs-fit =
-      rw (stream-traced header picture (of .fit) (of .bytes))
+      rw (stream-traced header picture (of .fit) bytes)
       (visits-fit header (chunksOf header picture) startPlace (stream-times header picture (of .fit)))
 
   -- its chunks are those that the encoder chose
   stream-count : chunkCount (streamOf header picture) ≡ length (chunksOf header picture)
   stream-count =
-      rw (stream-traced header picture (of .fit) (of .bytes)) (visits-count header (chunksOf header picture) startPlace)
+      rw (stream-traced header picture (of .fit) bytes) (visits-count header (chunksOf header picture) startPlace)
 
   -- the strict check accepts it
   pub stream-is-strict : StrictAccepts header picture
   unfolding restOf
   stream-is-strict =
       let m = streamOf header picture in
-      let back = reads-back header picture (of .fit) (of .needed) (of .bytes) in
+      let back = reads-back header picture (of .fit) (of .needed) bytes in
       let passed =
       strict-must-accept m (ownChannels header) (length picture) (length picture) (length m)
       (ap (λ r. r .answer) (back .decoder-is (length picture) (omega arith))) stream-runs-fit (drop-length m) in
-      let reads = strict-accepts m (passed .0) (chunkCount m) (length m) (passed .1) .reads in
-      let same : passed .0 ≡ header = cc (reads, stream-opens header picture (of .fit)) in
-      passed .1 ∙ rw (same, stream-count)
+      let same : passed .0 ≡ header = cc (passed .1, stream-opens header picture (of .fit)) in
+      passed .2 ∙ rw (same, stream-count)
 
   -- no INDEX of it names a slot not yet filled
   pub stream-keeps-filled : KeepsFilled header picture
   unfolding indexesFilled chunksOf
   stream-keeps-filled =
       let n = channelsNumber (header .channels) in
-      rw (stream-traced header picture (of .fit) (of .bytes))
-      (start-filled header (pixelsFrom (pixelCount header) n picture) (pixels-whole (pixelCount header) n picture (every-byte picture (of .bytes))))
+      rw (stream-traced header picture (of .fit) bytes)
+      (start-filled header (pixelsFrom (pixelCount header) n picture) (pixels-whole (pixelCount header) n picture (every-byte picture bytes)))
 
 -- both are so of whatever an encode that is accepted wrote
 pub encode-writes-strictly :
@@ -65,12 +64,11 @@ pub encode-writes-strictly :
     → WroteStrictly picture (encoding picture width height colorspace room .bytes) width height colorspace room size
 encode-writes-strictly picture width height colorspace room size bytes e =
     let wrote = encode-wrote picture width height colorspace room size e in
-    let of : PictureOf (wrote .header) picture = record { fit = wrote .fit; needed = wrote .needed; bytes = bytes } in
     record {
       wrote = wrote;
       strict-accepts =
           ap strict (wrote .stream-is)
-          ∙ stream-is-strict (wrote .header) picture of
+          ∙ stream-is-strict (wrote .header) picture (wrote .picture-is) bytes
           ∙ ap (accepted (wrote .header) (length (chunksOf (wrote .header) picture))) (sym (wrote .all ∙ ap length (wrote .stream-is)));
-      filled = rw (wrote .stream-is) (stream-keeps-filled (wrote .header) picture of);
+      filled = rw (wrote .stream-is) (stream-keeps-filled (wrote .header) picture (wrote .picture-is) bytes);
     }

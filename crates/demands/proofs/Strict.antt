@@ -275,8 +275,8 @@ strict-must-accept m w room size used e runs nothing-follows =
     go :
         (o : Opened m w room size used)
         → Verdict (o .header) m (channelsNumber (o .channels)) 0 (strict m) (remaining decoder (o .header) (channelsNumber (o .channels)) m startPlace .answer) (trace m)
-        → (header : Header) × (strict m ≡ accepted header (chunkCount m) used)
+        → (header : Header) × (headerOf m ≡ header-read.Ok header) × (strict m ≡ accepted header (chunkCount m) used)
     go o (passes says ends fit) =
         let same : length m ≡ used = done-used (sym ends ∙ o .ends) in
-        (o .header, says ∙ rw (zero-add, same))
+        (o .header, o .reads, says ∙ rw (zero-add, same))
     go o (fails x says wrong) = absurd (wrong size used (o .ends) enough runs)

@@ -9,10 +9,10 @@ use lib.Dec.{T}
 use lib.ListN.{length, take}
 use Rattle.header.specs.Header.{pixelCount}
 use Rattle.rules.specs.Reading.{Answer}
-use Rattle.rules.specs.Step.{State, Typed, wellFormed, started, starting, Step, more, end, step, steppedOver, going, ended, runOn, running}
+use Rattle.rules.specs.Step.{State, Typed, wellFormed, started, starting, Step, more, end, step, steppedOver, going, ended, runOn, running, outputOf}
 use Rattle.rules.specs.Record.{recordBytes, readRecord}
 use Rattle.rules.proofs.RecordLaws.{record-read-back}
-use Rattle.demands.specs.TakeOver.{bytesBefore, Life, begun, stepped, taken-up, stepsLeft, EndsAsUncut, runningOn, outputOf}
+use Rattle.demands.specs.TakeOver.{bytesBefore, Life, begun, stepped, taken-up, stepsLeft, EndsAsUncut, runningOn}
 use Rattle.demands.proofs.Steps.{run-adds, run-keeps-before}
 use Rattle.demands.proofs.Way.{OnWay, within, starts-on-way, starts-at-none}
 use Rattle.demands.proofs.Held.{Held, ends-as-uncut, goes-as-uncut}

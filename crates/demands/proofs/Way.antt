@@ -9,7 +9,6 @@ use borrow.Author.Tests.{lt-ltb, le-ltb}
 use lib.Dec.{T, le→leb, leb→le}
 use lib.ListN.{length, take, drop, length-append}
 use lib.Seq.{length-take-le, take-at}
-use Rattle.pixel.specs.declared.error.Error.{Error}
 use Rattle.pixel.specs.declared.error.Error.the-variants.{OutputBufferTooSmall}
 use Rattle.pixel.specs.declared.types.Channels.{Channels}
 use Rattle.pixel.specs.declared.types.Channels.the-variants.{Rgb, Rgba}

@@ -14,8 +14,8 @@ use Rattle.header.specs.Header.{headerBytes, headerFrom, afterColorSpace, after
 use Rattle.rules.specs.Chunk.{chunkFrom, chunkAt, colourOf, timesOf, sizeOf}
 use Rattle.rules.specs.Reading.{done, marker, sameBytes, repeated, closing, startPlace, pixelsBrought, pixelAfter, placeAfter, bytesOf, moveBy, move, reading, readingInto, withWanted, withHeader, wholeReading}
 use Rattle.rules.specs.Decode.{decoderStores, decoderKeeps, decoderReadsRgba}
-use Rattle.rules.specs.Step.{State, wellFormed, startWanted, startHeader, starting, stepBy, step, Ran, ended, running}
-use Rattle.demands.specs.TakeOver.{Life, begun, stepped, taken-up, stepsLeft, EndsAsUncut, outputOf}
+use Rattle.rules.specs.Step.{State, wellFormed, startWanted, startHeader, starting, stepBy, step, Ran, ended, running, outputOf}
+use Rattle.demands.specs.TakeOver.{Life, begun, stepped, taken-up, stepsLeft, EndsAsUncut}
 use Rattle.demands.specs.Flushing.{Torn, Stored}
 use Rattle.demands.specs.Flushing as store
 use Rattle.demands.proofs.TakeOver.{reached-readable}

@@ -1,18 +1,17 @@
 -- What an encode that is accepted wrote: the stream of its picture under its header.
 -- Assumes nothing.
-use mathlib.Core.Path.{_≡_, refl, sym}
+use mathlib.Core.Path.{_≡_, refl}
 use mathlib.Core.Bool.{Bool, true, false, cond}
 use mathlib.Core.List.{List}
-use Prim.Native.Nat.{ℕ, _*_, _/_, _%_, min}
+use Prim.Native.Nat.{ℕ, _*_, _/_, _%_}
 use native.Mathlib.Nat.{mul-comm, div-add-mod'}
 use native.Mathlib.Omega.{arith}
 use borrow.Author.Tests.{ltb-false, eqb-true}
 use lib.Dec.{T, ltb, eqb}
 use lib.ListN.{length}
 use Rattle.pixel.specs.declared.error.Error.{Error}
-use Rattle.pixel.specs.declared.error.Error.the-variants.{InvalidChannels, InvalidImageDimensions, InvalidImageLength, OutputBufferTooSmall}
+use Rattle.pixel.specs.declared.error.Error.the-variants.{InvalidImageDimensions, InvalidImageLength, OutputBufferTooSmall}
 use Rattle.pixel.specs.declared.types.Channels.{Channels}
-use Rattle.pixel.specs.declared.types.Channels.the-variants.{Rgb, Rgba}
 use Rattle.pixel.specs.declared.types.ColorSpace.{ColorSpace}
 use Rattle.pixel.specs.declared.types.ChannelsRead.{ChannelsRead}
 use Rattle.pixel.specs.declared.types.ChannelsRead.the-variants as channels-read
@@ -71,10 +70,12 @@ module _ (picture : List ℕ) (width height colorspace room size : ℕ) where
                 height-is = refl;
                 channels-are = counted;
                 colorspace-is = read;
-                fit = fit;
-                needed =
-                    rw (channels-number quotient c counted)
-                    (omega (arith, div-add-mod' (length picture) (width * height), mul-comm (width * height) quotient));
+                picture-is = record {
+                  fit = fit;
+                  needed =
+                      rw (channels-number quotient c counted)
+                      (omega (arith, div-add-mod' (length picture) (width * height), mul-comm (width * height) quotient));
+                };
                 roomy = ltb-false room required t;
                 stream-is = refl;
                 all = same-size e;

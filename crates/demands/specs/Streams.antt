@@ -6,7 +6,6 @@ use lib.Dec.{T}
 use lib.ListN.{length}
 use Rattle.pixel.specs.declared.types.ChannelsRead.the-variants as channels-read
 use Rattle.pixel.specs.declared.types.ColorSpaceRead.the-variants as colorspace-read
-use Rattle.pixel.specs.Bytes.{AllBytes}
 use Rattle.pixel.specs.Types.{channelsNumber, channelsFrom, colorSpaceFrom}
 use Rattle.header.specs.declared.Header.{Header}
 use Rattle.header.specs.Header.{pixelCount, dimensionsFit, encodedRoom}
@@ -14,11 +13,10 @@ use Rattle.rules.specs.Encode.{chunksOf, streamOf}
 use Rattle.rules.specs.Strict.{accepted, strict}
 use Rattle.rules.specs.Document.{indexesFilled}
 
--- a picture of a header: its dimensions pass, and it is bytes, as many as its pixels need
+-- a picture of a header: its dimensions pass, and it is as long as its pixels need
 pub record PictureOf (header : Header) (picture : List ℕ) : Type 0 where
   pub fit : T (dimensionsFit (header .width) (header .height))
   pub needed : length picture ≡ pixelCount header * channelsNumber (header .channels)
-  pub bytes : AllBytes picture
 
 -- the strict check accepts the stream of a picture, with its header, as many chunks as the encoder chose, and all its bytes
 abbrev pub StrictAccepts : Header → List ℕ → Type 0
@@ -36,8 +34,7 @@ pub record Wrote (picture stream : List ℕ) (width height colorspace room size 
   pub height-is : header .height ≡ height
   pub channels-are : channelsFrom (length picture / (width * height)) ≡ channels-read.Ok (header .channels)
   pub colorspace-is : colorSpaceFrom colorspace ≡ colorspace-read.Ok (header .colorspace)
-  pub fit : T (dimensionsFit (header .width) (header .height))
-  pub needed : length picture ≡ pixelCount header * channelsNumber (header .channels)
+  pub picture-is : PictureOf header picture
   pub roomy : encodedRoom (header .width) (header .height) (channelsNumber (header .channels)) ≤ room
   pub stream-is : stream ≡ streamOf header picture
   pub all : size ≡ length stream

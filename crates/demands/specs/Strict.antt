@@ -27,8 +27,9 @@ pub record Passes (m : List ℕ) (header : Header) (chunks bytes : ℕ) : Type 0
   -- the chunks are those that the decoder reads
   pub counts : chunks ≡ chunkCount m
 
--- what a decode accepts, at any wanted channels and into any room, with no run past the image and nothing after the marker, the strict check accepts, with the chunks and the bytes of it
+-- what a decode accepts, at any wanted channels and into any room, with no run past the image and nothing after the marker, the strict check
+-- accepts, with the message's header and the chunks and the bytes of it
 abbrev pub MustPass : List ℕ → Type 0
 MustPass m =
-    (wanted room size used : ℕ) → decoding m wanted room .answer ≡ done size used → T (runsFit m)
-    → restOf m (done size used) ≡ [] → (header : Header) × (strict m ≡ accepted header (chunkCount m) used)
+    (wanted room size used : ℕ) → decoding m wanted room .answer ≡ done size used → T (runsFit m) → restOf m (done size used) ≡ []
+    → (header : Header) × (headerOf m ≡ header-read.Ok header) × (strict m ≡ accepted header (chunkCount m) used)

@@ -40,8 +40,3 @@ EndsAsUncut m w b run =
 abbrev pub runningOn : List ℕ → ℕ → Ran → Ran
 runningOn m k (going s o) = running m k s o
 runningOn m k (ended answer s o) = ended answer s o
-
--- the output that a run leaves
-abbrev pub outputOf : Ran → List ℕ
-outputOf (going s o) = o
-outputOf (ended answer s o) = o

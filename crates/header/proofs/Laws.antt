@@ -41,7 +41,7 @@ big-endian-read-back n small =
     let top : n / 16777216 % 256 ≡ n / 16777216 = mod-eq-of-lt (omega arith) in
     omega (arith, div-div-eq-div-mul n 256 256, div-div-eq-div-mul n 65536 256)
 
-channels-read-back : (c : Channels) → channelsFrom (channelsNumber c) ≡ channels-read.Ok c
+pub channels-read-back : (c : Channels) → channelsFrom (channelsNumber c) ≡ channels-read.Ok c
 channels-read-back Rgb = refl
 channels-read-back Rgba = refl
 

@@ -2,29 +2,32 @@
 -- Assumes nothing.
 use mathlib.Core.Path.{_≡_, refl, sym, _∙_, ap}
 use mathlib.Core.List.{List}
-use Prim.Native.Nat.{ℕ, _^_, _≤_, _<_}
+use Prim.Native.Nat.{ℕ, _+_, _^_, _≤_, _<_}
 use native.Mathlib.Omega.{arith}
 use borrow.Author.Tests.{le-ltb}
+use lib.Dec.{leb→le}
 use lib.ListN.{length, take}
 use Rattle.pixel.specs.declared.error.Error.{Error}
 use Rattle.pixel.specs.declared.error.Error.the-variants.{UnexpectedBufferEnd, InvalidChannels, InvalidColorSpace, InvalidMagic, InvalidImageDimensions, InvalidImageLength, OutputBufferTooSmall, InvalidPadding, BadState, RunPastImage, BytesAfterMarker}
 use Rattle.pixel.specs.Bytes.{AllBytes}
 use Rattle.pixel.specs.Refusal.{numberOf}
+use Rattle.header.specs.Header.{pixelCount}
 use Rattle.header.proofs.Laws.{is-true}
 use Rattle.rules.specs.Reading.{Answer, done, refused}
 use Rattle.rules.specs.Decode.{decoding, writtenOver}
 use Rattle.rules.specs.Figures.{answerFigures, recordFigures}
-use Rattle.rules.specs.Step.{State, wellFormed, Started, started, notStarted, starting, Ran, going, ended, running}
+use Rattle.rules.specs.Step.{State, wellFormed, Started, started, notStarted, starting, Ran, going, ended, outputOf, running}
 use Rattle.rules.specs.Record.{Recorded, recorded, notRecorded, recording, recordedOver, recordBytes, readRecord}
-use Rattle.rules.proofs.RecordLaws.{record-length}
+use Rattle.rules.proofs.RecordLaws.{record-length, formed}
 use Rattle.rules.proofs.RecordAgainLaws.{record-written-back, record-well-formed, record-short}
 use Rattle.demands.specs.TakeOver.{Life, begun, taken-up, stepsLeft}
 use Rattle.demands.specs.Inside.{StoppedInside}
 use Rattle.demands.proofs.TakeOver.{reached-readable, reached-well-formed, enough-steps, run-lives, run-ends-as-uncut}
+use Rattle.demands.proofs.Steps.{run-keeps-before, run-further}
 use Rattle.demands.proofs.Inside.{inside-keeps-before}
 use Rattle.demands.proofs.Written.{written-record}
 use Rattle.decode.proofs.Whole.{refused-start}
-use Rattle.qoi.specs.Hosted.{startedFigures, startedOver, moreFigures, ranFigures, ranOut, ranNext, hostFigures, hostOut, hostNext}
+use Rattle.qoi.specs.Hosted.{startedFigures, startedOver, moreFigures, ranFigures, ranNext, hostFigures, hostOut, hostNext}
 use Rattle.promises.specs.Hosts.{says, returned, recordRoom, Host, starts, runs, takes-over, EndsAsDecode, TakesOver, Starts, TestsRecord}
 
 -- a refusal's number is neither 0 nor 256
@@ -62,7 +65,8 @@ module _ {m : List ℕ} {w : ℕ} {o b : List ℕ} (s : State) (life : Life m w 
   -- and is read back as the state that it was written of
   kept : (part : List ℕ) (n : ℕ) → recording s (length part) ≡ recorded n → Lives m w (take n (recordedOver s part)) o b
   kept part n is =
-      rw (written-record s part n is) (record { state = s; reads = reached-readable life; fits = short; life = life })
+      let same = written-record s part n is in
+      record { state = s; reads = rw same (reached-readable life); fits = rw same short; life = life }
 
 lives-starts :
     (m : List ℕ) (w : ℕ) (o part : List ℕ) (n : ℕ) → length m < 2 ^ 64 → (v : Started) → starting m w ≡ v
@@ -86,8 +90,34 @@ module _ {m : List ℕ} {w : ℕ} {r o b : List ℕ} (l : Lives m w r o b) (step
       on s′ o′ life (recorded k) e told = let same : k ≡ n = cc in kept s′ life next n (e ∙ ap recorded same)
       on s′ o′ life (notRecorded x) e told = let z : numberOf x ≡ 256 = cc in absurd (omega (arith, number-small x .1))
 
-      go : (v : Ran) → running m steps (l .state) o ≡ v → ranFigures v next ≡ says 256 n → Lives m w (take n (ranNext v next)) (ranOut v) b
+      go : (v : Ran) → running m steps (l .state) o ≡ v → ranFigures v next ≡ says 256 n → Lives m w (take n (ranNext v next)) (outputOf v) b
       go (going s′ o′) e told = on s′ o′ (run-lives steps (l .life) s′ o′ e) (recording s′ (length next)) refl told
+      go (ended (done size used) last left) e told = let z : _≡_ {A = ℕ} 0 256 = cc in absurd (omega arith)
+      go (ended (refused x) last left) e told = let z : numberOf x ≡ 256 = cc in absurd (omega (arith, number-small x .1))
+
+  nearer-so :
+      (n : ℕ) → hostFigures m steps o next (readRecord r) ≡ says 256 n
+      → (s′ : State) × (readRecord (take n (hostNext m steps o next (readRecord r))) ≡ started s′) × (stepsLeft s′ + steps ≤ stepsLeft (l .state))
+  nearer-so n said = rw (l .reads) (go (running m steps (l .state) o) refl (rw (l .reads) at said))
+    where
+      Goal : Ran → Type 0
+      Goal v = (s′ : State) × (readRecord (take n (ranNext v next)) ≡ started s′) × (stepsLeft s′ + steps ≤ stepsLeft (l .state))
+
+      on :
+          (s′ : State) (o′ : List ℕ) → running m steps (l .state) o ≡ going s′ o′ → (v : Recorded) → recording s′ (length next) ≡ v
+          → moreFigures v ≡ says 256 n → Goal (going s′ o′)
+      on s′ o′ e (recorded k) is told =
+          let same : k ≡ n = cc in
+          let life = run-lives steps (l .life) s′ o′ e in
+          let further = run-further m steps (l .state) o s′ o′ e in
+          let within = formed s′ (reached-well-formed life .0) .pixel-passes in
+          let reads : readRecord (take n (recordedOver s′ next)) ≡ started s′ =
+          rw (written-record s′ next n (is ∙ ap recorded same)) (reached-readable life) in
+          (s′, reads, omega (arith, further .0, ap pixelCount (further .1), leb→le (s′ .place .pixel) (pixelCount (s′ .header)) within))
+      on s′ o′ e (notRecorded x) is told = let z : numberOf x ≡ 256 = cc in absurd (omega (arith, number-small x .1))
+
+      go : (v : Ran) → running m steps (l .state) o ≡ v → ranFigures v next ≡ says 256 n → Goal v
+      go (going s′ o′) e told = on s′ o′ e (recording s′ (length next)) refl told
       go (ended (done size used) last left) e told = let z : _≡_ {A = ℕ} 0 256 = cc in absurd (omega arith)
       go (ended (refused x) last left) e told = let z : numberOf x ≡ 256 = cc in absurd (omega (arith, number-small x .1))
 
@@ -99,7 +129,7 @@ module _ {m : List ℕ} {w : ℕ} {r o b : List ℕ} (l : Lives m w r o b) (step
     where
       go :
           (v : Ran) → running m steps (l .state) o ≡ v → (returned (ranFigures v next) ≡ 256 → ⊥)
-          → EndsAsDecode m w b next (ranFigures v next) (ranOut v) (ranNext v next)
+          → EndsAsDecode m w b next (ranFigures v next) (outputOf v) (ranNext v next)
       go (going s′ o′) e never = absurd (never (rw (written s′ (run-lives steps (l .life) s′ o′ e) next roomy)))
       go (ended answer last left) e never =
           let uncut = run-ends-as-uncut (l .life) steps answer last left e in
@@ -126,7 +156,14 @@ lives {m} {w} (takes-over {r} {o} {b} host s is o′ agrees) =
 
 takes-over-so : {m : List ℕ} {w : ℕ} {r o b : List ℕ} → Lives m w r o b → TakesOver m w r o b
 takes-over-so l =
-    record { state = l .state; reads = l .reads; fits = l .fits; ends-as-decode = ends-so l; ends-within = ends-soon l }
+    record {
+      state = l .state;
+      reads = l .reads;
+      fits = l .fits;
+      ends-as-decode = ends-so l;
+      nearer = nearer-so l;
+      ends-within = ends-soon l;
+    }
 
 -- whatever a host did, its record is read, and ends as pivotshade_decode within the pixels missing plus one steps
 pub host-takes-over : {m : List ℕ} {w : ℕ} {r o b : List ℕ} → Host m w r o b → TakesOver m w r o b
@@ -147,6 +184,14 @@ host-starts m w part small roomy = record { refuses-as-decode = λ never o. go o
         let same = refused-start m w (length o) e is in
         record { figures-are = rw same; output-is = rw same; next-stays = refl }
     go o (started s) is never = absurd (never (rw (written s (begun o small is) part roomy)))
+
+-- the record that a run was given may be handed in again on what the run left, whatever it returned
+pub host-left-behind :
+    {m : List ℕ} {w : ℕ} {r o b : List ℕ} → Host m w r o b → (steps : ℕ)
+    → Host m w r (hostOut m steps o (readRecord r)) (hostOut m steps o (readRecord r))
+host-left-behind {m} {w} {r} {o} host steps =
+    let l = lives host in
+    takes-over host (l .state) (l .reads) (hostOut m steps o (readRecord r)) (rw (l .reads) (run-keeps-before m steps (l .state) o))
 
 -- a host that is cut off inside a run, after some steps and with any bytes of the next one written, may hand the same record in on what it left
 pub host-left-inside :

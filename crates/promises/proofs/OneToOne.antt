@@ -13,7 +13,7 @@ use Rattle.rules.specs.Reading.{Answer, done, refused}
 use Rattle.rules.specs.Reading as rules
 use Rattle.rules.specs.Chunk.{INDEX, DIFF, LUMA, RUN, RGB, RGBA, Stuck, cut, chunk}
 use Rattle.rules.specs.Chunk as table
-use Rattle.rules.specs.Step.{State, Ran, going, ended}
+use Rattle.rules.specs.Step.{State, Ran, going, ended, outputOf}
 use Rattle.chunk.specs.declared.Colour.{Colour}
 use Rattle.chunk.specs.declared.Colour.the-variants as colour
 use Rattle.chunk.specs.declared.Found.{Found}
@@ -85,7 +85,7 @@ started-determined a b answer state =
     let decoder = state-determined (a .decoder) (b .decoder) state in
     λ i. record { answer = answer i; decoder = decoder i }
 
--- the answer of a run, its state and its output
+-- the answer of a run, and its state
 answerIn : Ran → StepAnswer
 answerIn (going s o) = stepped.More
 answerIn (ended answer s o) = endAnswer answer
@@ -93,10 +93,6 @@ answerIn (ended answer s o) = endAnswer answer
 stateIn : Ran → State
 stateIn (going s o) = s
 stateIn (ended answer s o) = s
-
-outputIn : Ran → List ℕ
-outputIn (going s o) = o
-outputIn (ended answer s o) = o
 
 module _ (s : State) (o : List ℕ) where
   answer-again : (a : StepAnswer) → answerIn (ranBy a s o) ≡ a
@@ -111,8 +107,7 @@ module _ (s : State) (o : List ℕ) where
   state-again (stepped.Done size used) = refl
   state-again (stepped.Refused e) = refl
 
-  output-again : (a : StepAnswer) → outputIn (ranBy a s o) ≡ o
-  unfolding outputIn
+  output-again : (a : StepAnswer) → outputOf (ranBy a s o) ≡ o
   output-again stepped.More = refl
   output-again (stepped.Done size used) = refl
   output-again (stepped.Refused e) = refl
@@ -125,7 +120,7 @@ ran-determined a b o o′ same =
     sym (state-again (stateOf (a .decoder)) o (a .answer)) ∙ ap stateIn same ∙ state-again (stateOf (b .decoder)) o′ (b .answer) in
     let decoder = state-determined (a .decoder) (b .decoder) state in (
       λ i. record { answer = answer i; decoder = decoder i },
-      sym (output-again (stateOf (a .decoder)) o (a .answer)) ∙ ap outputIn same ∙ output-again (stateOf (b .decoder)) o′ (b .answer),
+      sym (output-again (stateOf (a .decoder)) o (a .answer)) ∙ ap outputOf same ∙ output-again (stateOf (b .decoder)) o′ (b .answer),
     )
 
 -- the decode's answer

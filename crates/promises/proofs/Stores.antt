@@ -2,21 +2,38 @@
 -- Assumes nothing.
 use mathlib.Core.Path.{_≡_, refl, _∙_, ap}
 use mathlib.Core.List.{List, List·Memᴰ}
-use Prim.Native.Nat.{ℕ}
+use Prim.Native.Nat.{ℕ, _^_, _<_}
 use native.Mathlib.Omega.{arith}
-use lib.ListN.{length, take}
+use lib.ListN.{length}
 use Rattle.pixel.specs.Refusal.{numberOf}
 use Rattle.rules.specs.Reading.{done, refused}
-use Rattle.rules.specs.Step.{State, Ran, going, ended, running}
+use Rattle.rules.specs.Figures.{recordFigures}
+use Rattle.rules.specs.Step.{State, Started, started, notStarted, starting, Ran, going, ended, running}
 use Rattle.rules.specs.Record.{Recorded, recorded, notRecorded, recording, recordBytes, readRecord}
-use Rattle.demands.specs.Flushing.{Torn, Stored}
+use Rattle.demands.specs.Flushing.{Torn, Stored, begun}
 use Rattle.demands.proofs.Flushing.{stored-lives, crash-lives, checkpointed}
 use Rattle.demands.proofs.TakeOver.{reached-readable}
 use Rattle.demands.proofs.Written.{written-record}
-use Rattle.qoi.specs.Hosted.{moreFigures, ranFigures, ranOut, ranNext, hostFigures}
+use Rattle.qoi.specs.Hosted.{startedFigures, moreFigures, ranFigures, hostFigures}
 use Rattle.promises.specs.Hosts.{says, TakesOver}
-use Rattle.promises.specs.Stores.{Checkpoint}
+use Rattle.promises.specs.Stores.{Checkpoint, Beginning}
 use Rattle.promises.proofs.Hosts.{number-small, life-takes-over}
+
+-- a start begins a history over the store
+pub host-begins :
+    (m : List ℕ) (w : ℕ) (o part : List ℕ) (n : ℕ) → length m < 2 ^ 64 → startedFigures (starting m w) part ≡ says 0 n
+    → Beginning m w o part n
+host-begins m w o part n small said = go (starting m w) refl said
+  where
+    on : (s : State) → starting m w ≡ started s → (v : Recorded) → recording s (length part) ≡ v → recordFigures v ≡ says 0 n → Beginning m w o part n
+    on s is (recorded k) e told =
+        let same : k ≡ n = cc in
+        record { state = s; record-is = rw is (written-record s part n (e ∙ ap recorded same)); history = begun o small is }
+    on s is (notRecorded x) e told = let z : numberOf x ≡ 0 = cc in absurd (omega (arith, number-small x .0))
+
+    go : (v : Started) → starting m w ≡ v → startedFigures v part ≡ says 0 n → Beginning m w o part n
+    go (notStarted e) is told = let z : numberOf e ≡ 0 = cc in absurd (omega (arith, number-small e .0))
+    go (started s) is told = on s is (recording s (length part)) refl told
 
 module _ {m : List ℕ} {w : ℕ} {s f : State} {o b : List ℕ} {since : List (List ℕ)} {saved : List State}
     (h : Stored m w s o b since f saved) where

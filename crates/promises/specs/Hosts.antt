@@ -1,7 +1,7 @@
 -- Demand 3 for a host that has only the exported functions and keeps the state as its record: the host's histories, and what holds of each.
 use mathlib.Core.List.{List, [], _∷_}
 use mathlib.Core.Path.{_≡_}
-use Prim.Native.Nat.{ℕ, _^_, _≤_, _<_}
+use Prim.Native.Nat.{ℕ, _+_, _^_, _≤_, _<_}
 use lib.ListN.{length, getD, take}
 use Rattle.pixel.specs.declared.error.Error.{Error}
 use Rattle.rules.specs.Decode.{decoding, writtenOver}
@@ -39,7 +39,7 @@ pub data Host (m : List ℕ) (w : ℕ) : List ℕ → List ℕ → List ℕ → 
       {r o b : List ℕ} → Host m w r o b → (s : State) → readRecord r ≡ started s → (o′ : List ℕ)
       → take (bytesBefore s) o′ ≡ take (bytesBefore s) o → Host m w r o′ o′
 
--- figures, output and the part for the next record are those of pivotshade_decode of m at w into b, which is lent no such part
+-- figures and output are those of pivotshade_decode of m at w into b; the part for the next record is as it was
 pub record EndsAsDecode (m : List ℕ) (w : ℕ) (b next figures out after : List ℕ) : Type 0 where
   pub figures-are : figures ≡ answerFigures (decoding m w (length b) .answer)
   pub output-is : out ≡ writtenOver (decoding m w (length b) .bytes) b
@@ -57,6 +57,10 @@ pub record TakesOver (m : List ℕ) (w : ℕ) (r o b : List ℕ) : Type 0 where
       → (returned (hostFigures m steps o next (readRecord r)) ≡ 256 → ⊥)
       → EndsAsDecode m w b next (hostFigures m steps o next (readRecord r)) (hostOut m steps o (readRecord r))
       (hostNext m steps o next (readRecord r))
+  -- one that returns 256 leads to a record with fewer steps left, by as many as it was given
+  pub nearer :
+      (steps : ℕ) (next : List ℕ) (n : ℕ) → hostFigures m steps o next (readRecord r) ≡ says 256 n
+      → (s′ : State) × (readRecord (take n (hostNext m steps o next (readRecord r))) ≡ started s′) × (stepsLeft s′ + steps ≤ stepsLeft state)
   -- with the pixels missing plus one steps, or more, it does not return 256
   pub ends-within :
       (steps : ℕ) (next : List ℕ) → stepsLeft state ≤ steps

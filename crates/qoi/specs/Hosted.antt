@@ -2,7 +2,7 @@
 use mathlib.Core.List.{List, [], _∷_}
 use Prim.Native.Nat.{ℕ}
 use lib.ListN.{length}
-use Rattle.rules.specs.Step.{Started, started, notStarted, Ran, going, ended, running}
+use Rattle.rules.specs.Step.{Started, started, notStarted, Ran, going, ended, outputOf, running}
 use Rattle.rules.specs.Record.{Recorded, recorded, notRecorded, recording, recordedOver}
 use Rattle.rules.specs.Figures.{refusalFigures, answerFigures, recordFigures}
 
@@ -26,11 +26,6 @@ abbrev pub ranFigures : Ran → List ℕ → List ℕ
 ranFigures (going s out) next = moreFigures (recording s (length next))
 ranFigures (ended answer s out) next = answerFigures answer
 
--- the output then
-abbrev pub ranOut : Ran → List ℕ
-ranOut (going s out) = out
-ranOut (ended answer s out) = out
-
 -- the part for the next record: an end leaves it as it was
 abbrev pub ranNext : Ran → List ℕ → List ℕ
 ranNext (going s out) next = recordedOver s next
@@ -43,7 +38,7 @@ hostFigures message steps out next (started s) = ranFigures (running message ste
 
 abbrev pub hostOut : List ℕ → ℕ → List ℕ → Started → List ℕ
 hostOut message steps out (notStarted e) = out
-hostOut message steps out (started s) = ranOut (running message steps s out)
+hostOut message steps out (started s) = outputOf (running message steps s out)
 
 abbrev pub hostNext : List ℕ → ℕ → List ℕ → List ℕ → Started → List ℕ
 hostNext message steps out next (notStarted e) = next

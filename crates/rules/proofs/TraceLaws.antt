@@ -11,11 +11,11 @@ use lib.ListN.{drop}
 use Rattle.pixel.specs.declared.error.Error.{Error}
 use Rattle.pixel.specs.declared.types.Channels.{Channels}
 use Rattle.pixel.specs.declared.types.Channels.the-variants.{Rgb, Rgba}
-use Rattle.pixel.specs.declared.types.ChannelsRead.the-variants as channels-read
-use Rattle.pixel.specs.Types.{channelsNumber, channelsFrom}
+use Rattle.pixel.specs.Types.{channelsNumber}
 use Rattle.header.specs.declared.Header.{Header}
 use Rattle.header.specs.declared.HeaderRead.the-variants as header-read
 use Rattle.header.specs.Header.{pixelCount, headerOf}
+use Rattle.header.proofs.Laws.{channels-read-back}
 use Rattle.rules.specs.Chunk.{Found, cut, chunk, chunkAt}
 use Rattle.rules.specs.Reading.{Way, Place, done, refused, end, readOn, closing, startPlace, sizeWanted, placeAfter, bytesOf, moveBy, move, reading, remaining, readingInto, withWanted, withHeader, wholeReading}
 use Rattle.rules.specs.Decode.{decoder, decoderReadsRgba, decoding}
@@ -25,17 +25,12 @@ use Rattle.rules.specs.Trace.{Visit, ownChannels, visitsOn, chunkDue, vi
 pub refused-is-not-done : {e : Error} {size used : ℕ} → refused e ≡ done size used → ⊥
 refused-is-not-done p = let z : _≡_ {A = ℕ} 0 1 = cc in omega arith
 
--- the channels' own number is theirs
-own-number : (c : Channels) → channelsFrom (channelsNumber c) ≡ channels-read.Ok c
-own-number Rgb = refl
-own-number Rgba = refl
-
 -- the reading of a message whose header is known
 pub whole-is :
     (way : Way) (m : List ℕ) (header : Header) (c : Channels) (room : ℕ) → headerOf m ≡ header-read.Ok header
     → wholeReading way m (channelsNumber c) room ≡ readingInto way header (channelsNumber c) m room
 unfolding wholeReading withHeader withWanted
-whole-is way m header c room reads = rw (reads, own-number c)
+whole-is way m header c room reads = rw (reads, channels-read-back c)
 
 -- the chunks of a message whose header is known
 pub trace-is : (m : List ℕ) (header : Header) → headerOf m ≡ header-read.Ok header → trace m ≡ visits header m (pixelCount header) startPlace

@@ -105,6 +105,11 @@ pub data Ran : Type 0 where
   going : State → List ℕ → Ran
   ended : Answer → State → List ℕ → Ran
 
+-- the output that a run leaves
+abbrev pub outputOf : Ran → List ℕ
+outputOf (going s out) = out
+outputOf (ended answer s out) = out
+
 -- a step, and then those that follow it
 abbrev pub runOn : (State → List ℕ → Ran) → State → List ℕ → Step → Ran
 runOn next s out (more s′ bytes) = next s′ (steppedOver s bytes out)

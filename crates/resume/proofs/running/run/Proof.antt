@@ -9,7 +9,7 @@ use borrow.Author.Tests.{not-true, not-false}
 use lib.Dec.{T, lit<}
 use Rattle.header.proofs.Laws.{pixels-small}
 use Rattle.rules.specs.Reading.{sizeWanted}
-use Rattle.rules.specs.Step.{wellFormed, running}
+use Rattle.rules.specs.Step.{wellFormed}
 use Rattle.rules.proofs.RecordLaws.{formed, wanted-few}
 use Rattle.resume.specs.State.{stateOf}
 use Rattle.resume.proofs.RunLaws.{run-none, run-bad, run-short, run-past}
