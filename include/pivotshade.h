@@ -28,24 +28,27 @@ uint64_t pivotshade_decode(const uint8_t *msg, size_t len, uint64_t wanted, uint
 uint64_t pivotshade_start(const uint8_t *msg, size_t len, uint64_t wanted, uint8_t *record, size_t record_len, uint64_t figures[4]);
 
 /* Takes up a record and does at most `steps` steps, a chunk each. 0: the decode ended, with decode's figures. PIVOTSHADE_MORE: there is more
-   to do; next holds the next record, and its length is the first figure. Else a refusal. An end leaves next as it was. No byte of out before
-   the record's pixel is written.
+   to do; next holds the next record, and its length is the first figure. Else a refusal. Whatever is returned but PIVOTSHADE_MORE, next is as
+   it was. No byte of out before the record's pixel is written.
 
    A host owes, and the call cannot see:
    - the message that the record was started on, byte for byte;
    - an output that holds, before the record's pixel, what it held when the record was written; from there on it may hold anything;
-   - parts that do not overlap: msg, record, out, next and figures are five different places. A record is not run into itself.
+   - parts that do not overlap, and that nobody else writes during the call: msg, record, out, next and figures are five different places. A
+     record is not run into itself.
 
-   Whose refusal it is:
-   - 1: the record is cut short, or the message is. A call with 0 steps and PIVOTSHADE_RECORD_MAX bytes for next tests the record alone: it
-     returns PIVOTSHADE_MORE and the same record, or the record's refusal, and touches no output.
-   - 2, 3, 4, 5 and 9 are the record's.
-   - 7: figures are the length and what is required. With PIVOTSHADE_RECORD_MAX bytes for next it is always out's. For next the steps are
-     done and stand in out: the old record may be handed in again, on that output.
-   - 8 is the message's.
+   Whose refusal it is, and what it leaves:
+   - 2, 3, 4, 5 and 9 are the record's; out is as it was.
+   - 1 is the record's, cut short, or the message's. A call with 0 steps and PIVOTSHADE_RECORD_MAX bytes for next tests the record alone: it
+     returns PIVOTSHADE_MORE and the same record, or the record's refusal, and out is as it was.
+   - 1 and 8 of the message leave out as pivotshade_decode leaves it.
+   - 7 has the length and what is required. With PIVOTSHADE_RECORD_MAX bytes for next it is always out's, and out is as it was. For next the
+     steps are done and stand in out.
+   After any of them the same record may be handed in again.
 
-   A host that keeps its output in a file writes there only the bytes that a run brought, from the record's pixel to the next record's, and
-   saves the next record after they are flushed. */
+   A host that keeps its output in a file writes there only from the record's pixel on, and saves the next record after that is flushed. The
+   pixel is the third number after a record's 14 header bytes, seven bits a byte, the lowest first, the top bit set on all but its last byte;
+   its first byte in out is that number times the wanted channels, which are the first number. */
 #define PIVOTSHADE_MORE 256
 uint64_t pivotshade_run(const uint8_t *msg, size_t len, const uint8_t *record, size_t record_len, uint8_t *out, size_t out_len, uint64_t steps,
                         uint8_t *next, size_t next_len, uint64_t figures[4]);

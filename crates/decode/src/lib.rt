@@ -36,7 +36,7 @@ pub fn decode(message: &[u8], wanted: u64, out: &mut [u8]) -> Decoded
             match end {
                 StepAnswer::Refused(e) => Decoded::Refused(e),
                 StepAnswer::Done { size, used } => Decoded::Done { size, used },
-                // Never: every step is more than any picture takes.
+                // Never: EVERY_STEP is more than any picture takes.
                 StepAnswer::More => Decoded::Refused(Error::BadState),
             }
         }
