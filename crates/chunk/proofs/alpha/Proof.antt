@@ -5,21 +5,6 @@ use Rattle.rules.specs.Chunk.{colourOf}
 use Rattle.chunk.proofs.alpha.Statement.{statement}
 use Rattle.chunk.proofs.alpha.Tie as tie
 
-enum-told : tie.Need-enum-told
-enum-told c = search needs
-
-enum-told-2 : tie.Need-enum-told-2
-enum-told-2 c = search needs
-
-enum-told-3 : tie.Need-enum-told-3
-enum-told-3 c = search needs
-
-enum-known-colour : tie.Need-enum-known-colour
-enum-known-colour c = search needs
-
-enum-told-4 : tie.Need-enum-told-4
-enum-told-4 c = search needs
-
 returns : tie.Need-returns
 unfolding colourOf
 returns c = rw (c .enum-told .given .1)
@@ -44,11 +29,11 @@ pub alpha-spec : {M : Type 1} → statement M
 alpha-spec =
     tie.close
     (tie.spec
-    enum-told
-    enum-told-2
-    enum-told-3
-    enum-known-colour
-    enum-told-4
+    (λ c. search needs)
+    (λ c. search needs)
+    (λ c. search needs)
+    (λ c. search needs)
+    (λ c. search needs)
     returns
     returns-2
     returns-3

@@ -20,16 +20,10 @@ returns c =
     let part = c .before .args .part .now in
     sym (no-row (reads-rgba (c .before .args .source)) part (omega arith))
 
-shared-slice-read-byte : tie.Need-shared-slice-read-byte
-shared-slice-read-byte c = search needs
-
 returns-2 : tie.Need-returns-2
 returns-2 c =
     let part = c .before .before .before .args .part .now in
     sym (index-row (reads-rgba (c .before .before .before .args .source)) part (omega arith) (omega arith))
-
-enum-told : tie.Need-enum-told
-enum-told c = search needs
 
 returns-3 : tie.Need-returns-3
 unfolding decoderReadsRgba
@@ -37,26 +31,11 @@ returns-3 c =
     let part = c .before .before .before .before .before .before .before .args .part .now in
     rw (c .before .enum-told .given .1) (sym (rgba-cut part (omega arith) (omega arith) (omega arith)))
 
-shared-slice-read-t12 : tie.Need-shared-slice-read-t12
-shared-slice-read-t12 c = search needs
-
-shared-slice-read-t14 : tie.Need-shared-slice-read-t14
-shared-slice-read-t14 c = search needs
-
-shared-slice-read-t16 : tie.Need-shared-slice-read-t16
-shared-slice-read-t16 c = search needs
-
-shared-slice-read-t18 : tie.Need-shared-slice-read-t18
-shared-slice-read-t18 c = search needs
-
 returns-4 : tie.Need-returns-4
 unfolding decoderReadsRgba
 returns-4 c =
     let part = c .before .before .before .before .before .before .before .before .before .before .before .args .part .now in
     rw (c .before .before .before .before .before .enum-told .given .1) (sym (rgba-row part (omega arith) (omega arith)))
-
-enum-told-2 : tie.Need-enum-told-2
-enum-told-2 c = search needs
 
 returns-5 : tie.Need-returns-5
 unfolding decoderReadsRgba
@@ -75,15 +54,6 @@ returns-7 c =
     let part = c .before .before .before .before .before .before .args .part .now in
     sym (rgb-cut (reads-rgba (c .before .before .before .before .before .before .args .source)) part (omega arith) (omega arith) (omega arith))
 
-shared-slice-read-t26 : tie.Need-shared-slice-read-t26
-shared-slice-read-t26 c = search needs
-
-shared-slice-read-t28 : tie.Need-shared-slice-read-t28
-shared-slice-read-t28 c = search needs
-
-shared-slice-read-t30 : tie.Need-shared-slice-read-t30
-shared-slice-read-t30 c = search needs
-
 returns-8 : tie.Need-returns-8
 returns-8 c =
     let part = c .before .before .before .before .before .before .before .before .before .args .part .now in
@@ -99,16 +69,10 @@ returns-10 c =
     let part = c .before .before .before .before .before .before .before .before .args .part .now in
     sym (luma-cut (reads-rgba (c .before .before .before .before .before .before .before .before .args .source)) part (omega arith) (omega arith) (omega arith))
 
-shared-slice-read-second : tie.Need-shared-slice-read-second
-shared-slice-read-second c = search needs
-
 returns-11 : tie.Need-returns-11
 returns-11 c =
     let part = c .before .before .before .before .before .before .before .before .before .args .part .now in
     sym (luma-row (reads-rgba (c .before .before .before .before .before .before .before .before .before .args .source)) part (omega arith) (omega arith) (omega arith))
-
-add-t45 : tie.Need-add-t45
-add-t45 c = search needs
 
 returns-12 : tie.Need-returns-12
 returns-12 c =
@@ -120,26 +84,26 @@ read-spec =
     tie.close
     (tie.spec
     returns
-    shared-slice-read-byte
+    (λ c. search needs)
     returns-2
-    enum-told
+    (λ c. search needs)
     returns-3
-    shared-slice-read-t12
-    shared-slice-read-t14
-    shared-slice-read-t16
-    shared-slice-read-t18
+    (λ c. search needs)
+    (λ c. search needs)
+    (λ c. search needs)
+    (λ c. search needs)
     returns-4
-    enum-told-2
+    (λ c. search needs)
     returns-5
     returns-6
     returns-7
-    shared-slice-read-t26
-    shared-slice-read-t28
-    shared-slice-read-t30
+    (λ c. search needs)
+    (λ c. search needs)
+    (λ c. search needs)
     returns-8
     returns-9
     returns-10
-    shared-slice-read-second
+    (λ c. search needs)
     returns-11
-    add-t45
+    (λ c. search needs)
     returns-12)

@@ -10,9 +10,6 @@ returns : tie.Need-returns
 unfolding endingAt
 returns c = rw (lt-ltb _ 8 (c .if1 .taken))
 
-is-marker-requires : tie.Need-is-marker-requires
-is-marker-requires c κs = search needs
-
 returns-2 : tie.Need-returns-2
 unfolding endingAt
 returns-2 c = rw (le-ltb _ 8 (c .before .before .if1 .left), ← c .before .is-marker .ensures, c .if2 .taken)
@@ -22,4 +19,4 @@ unfolding endingAt
 returns-3 c = rw (le-ltb _ 8 (c .before .before .if1 .left), ← c .before .is-marker .ensures, c .if2 .left)
 
 pub read-end-spec : {M : Type 1} → statement M
-read-end-spec = tie.close (tie.spec returns is-marker-requires returns-2 returns-3)
+read-end-spec = tie.close (tie.spec returns (λ c κs. search needs) returns-2 returns-3)

@@ -14,66 +14,6 @@ use Rattle.chunk.proofs.recolour.Tie as tie
 near-green : (g x : ℕ) → wrappedSum (wrappedDifference g 40) x ≡ wrappedSum (wrappedDifference g 32) (wrappedDifference x 8)
 near-green g x = omega arith
 
-enum-known-colour : tie.Need-enum-known-colour
-enum-known-colour c = search needs
-
-wrapped-difference-requires : tie.Need-wrapped-difference-requires
-wrapped-difference-requires c κs = search needs
-
-wrapped-difference-requires-2 : tie.Need-wrapped-difference-requires-2
-wrapped-difference-requires-2 c κs = search needs
-
-wrapped-difference-requires-3 : tie.Need-wrapped-difference-requires-3
-wrapped-difference-requires-3 c κs = search needs
-
-shifted-requires : tie.Need-shifted-requires
-shifted-requires c κs = search needs
-
-enum-known-colour-2 : tie.Need-enum-known-colour-2
-enum-known-colour-2 c = search needs
-
-wrapped-difference-requires-4 : tie.Need-wrapped-difference-requires-4
-wrapped-difference-requires-4 c κs = search needs
-
-wrapped-sum-requires : tie.Need-wrapped-sum-requires
-wrapped-sum-requires c κs = search needs
-
-wrapped-difference-requires-5 : tie.Need-wrapped-difference-requires-5
-wrapped-difference-requires-5 c κs = search needs
-
-wrapped-sum-requires-2 : tie.Need-wrapped-sum-requires-2
-wrapped-sum-requires-2 c κs = search needs
-
-shifted-requires-2 : tie.Need-shifted-requires-2
-shifted-requires-2 c κs = search needs
-
-enum-known-colour-3 : tie.Need-enum-known-colour-3
-enum-known-colour-3 c = search needs
-
-pack-requires : tie.Need-pack-requires
-pack-requires c κs = search needs
-
-enum-known-colour-4 : tie.Need-enum-known-colour-4
-enum-known-colour-4 c = search needs
-
-pack-requires-2 : tie.Need-pack-requires-2
-pack-requires-2 c κs = search needs
-
-enum-told : tie.Need-enum-told
-enum-told c = search needs
-
-red-requires : tie.Need-red-requires
-red-requires c κs = search needs
-
-green-requires : tie.Need-green-requires
-green-requires c κs = search needs
-
-blue-requires : tie.Need-blue-requires
-blue-requires c κs = search needs
-
-pack-requires-3 : tie.Need-pack-requires-3
-pack-requires-3 c κs = search needs
-
 returns : tie.Need-returns
 unfolding colourOf
 returns c = simp (c .before .before .before .before .before .colour .given .1, c .shifted .ensures, c .before .wrapped-difference3 .ensures, c .before .before .wrapped-difference2 .ensures, c .before .before .before .wrapped-difference .ensures)
@@ -100,26 +40,26 @@ pub recolour-spec : {M : Type 1} → statement M
 recolour-spec =
     tie.close
     (tie.spec
-    enum-known-colour
-    wrapped-difference-requires
-    wrapped-difference-requires-2
-    wrapped-difference-requires-3
-    shifted-requires
-    enum-known-colour-2
-    wrapped-difference-requires-4
-    wrapped-sum-requires
-    wrapped-difference-requires-5
-    wrapped-sum-requires-2
-    shifted-requires-2
-    enum-known-colour-3
-    pack-requires
-    enum-known-colour-4
-    pack-requires-2
-    enum-told
-    red-requires
-    green-requires
-    blue-requires
-    pack-requires-3
+    (λ c. search needs)
+    (λ c κs. search needs)
+    (λ c κs. search needs)
+    (λ c κs. search needs)
+    (λ c κs. search needs)
+    (λ c. search needs)
+    (λ c κs. search needs)
+    (λ c κs. search needs)
+    (λ c κs. search needs)
+    (λ c κs. search needs)
+    (λ c κs. search needs)
+    (λ c. search needs)
+    (λ c κs. search needs)
+    (λ c. search needs)
+    (λ c κs. search needs)
+    (λ c. search needs)
+    (λ c κs. search needs)
+    (λ c κs. search needs)
+    (λ c κs. search needs)
+    (λ c κs. search needs)
     returns
     returns-2
     returns-3

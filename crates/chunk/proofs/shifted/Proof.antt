@@ -6,27 +6,6 @@ use Rattle.pixel.specs.Packed.{unpacked}
 use Rattle.chunk.proofs.shifted.Statement.{statement}
 use Rattle.chunk.proofs.shifted.Tie as tie
 
-red-requires : tie.Need-red-requires
-red-requires c κs = search needs
-
-wrapped-sum-requires : tie.Need-wrapped-sum-requires
-wrapped-sum-requires c κs = search needs
-
-green-requires : tie.Need-green-requires
-green-requires c κs = search needs
-
-wrapped-sum-requires-2 : tie.Need-wrapped-sum-requires-2
-wrapped-sum-requires-2 c κs = search needs
-
-blue-requires : tie.Need-blue-requires
-blue-requires c κs = search needs
-
-wrapped-sum-requires-3 : tie.Need-wrapped-sum-requires-3
-wrapped-sum-requires-3 c κs = search needs
-
-pack-requires : tie.Need-pack-requires
-pack-requires c κs = search needs
-
 returns : tie.Need-returns
 unfolding unpacked
 returns c =
@@ -37,11 +16,11 @@ pub shifted-spec : {M : Type 1} → statement M
 shifted-spec =
     tie.close
     (tie.spec
-    red-requires
-    wrapped-sum-requires
-    green-requires
-    wrapped-sum-requires-2
-    blue-requires
-    wrapped-sum-requires-3
-    pack-requires
+    (λ c κs. search needs)
+    (λ c κs. search needs)
+    (λ c κs. search needs)
+    (λ c κs. search needs)
+    (λ c κs. search needs)
+    (λ c κs. search needs)
+    (λ c κs. search needs)
     returns)

@@ -4,24 +4,6 @@ use Rattle.header.specs.Header.{afterChannels}
 use Rattle.header.proofs.after_channels.Statement.{statement}
 use Rattle.header.proofs.after_channels.Tie as tie
 
-enum-known-read : tie.Need-enum-known-read
-enum-known-read c = search needs
-
-enum-known-read-2 : tie.Need-enum-known-read-2
-enum-known-read-2 c = search needs
-
-shared-slice-read-wide : tie.Need-shared-slice-read-wide
-shared-slice-read-wide c = search needs
-
-wide-requires : tie.Need-wide-requires
-wide-requires c κs = search needs
-
-try-from-requires : tie.Need-try-from-requires
-try-from-requires c κs = search needs
-
-after-color-space-requires : tie.Need-after-color-space-requires
-after-color-space-requires c κs = search needs
-
 returns : tie.Need-returns
 unfolding afterChannels
 returns c = rw (c .before .read .given .1)
@@ -36,11 +18,11 @@ pub after-channels-spec : {M : Type 1} → statement M
 after-channels-spec =
     tie.close
     (tie.spec
-    enum-known-read
-    enum-known-read-2
-    shared-slice-read-wide
-    wide-requires
-    try-from-requires
-    after-color-space-requires
+    (λ c. search needs)
+    (λ c. search needs)
+    (λ c. search needs)
+    (λ c κs. search needs)
+    (λ c κs. search needs)
+    (λ c κs. search needs)
     returns
     returns-2)

@@ -5,29 +5,11 @@ use Rattle.header.specs.Header.{afterColorSpace}
 use Rattle.header.proofs.after_color_space.Statement.{statement}
 use Rattle.header.proofs.after_color_space.Tie as tie
 
-enum-known-read : tie.Need-enum-known-read
-enum-known-read c = search needs
-
-enum-known-read-2 : tie.Need-enum-known-read-2
-enum-known-read-2 c = search needs
-
-number-at-requires : tie.Need-number-at-requires
-number-at-requires c κs = search needs
-
 returns : tie.Need-returns
 unfolding afterColorSpace
 returns c =
     rw (c .before .before .before .read2 .given .1)
     (simp (← c .before .number-at .ensures, ne-eqb _ _ (c .if1 .taken)))
-
-number-at-requires-2 : tie.Need-number-at-requires-2
-number-at-requires-2 c κs = search needs
-
-number-at-requires-3 : tie.Need-number-at-requires-3
-number-at-requires-3 c κs = search needs
-
-try-new-requires : tie.Need-try-new-requires
-try-new-requires c κs = search needs
 
 returns-2 : tie.Need-returns-2
 unfolding afterColorSpace
@@ -43,12 +25,12 @@ pub after-color-space-spec : {M : Type 1} → statement M
 after-color-space-spec =
     tie.close
     (tie.spec
-    enum-known-read
-    enum-known-read-2
-    number-at-requires
+    (λ c. search needs)
+    (λ c. search needs)
+    (λ c κs. search needs)
     returns
-    number-at-requires-2
-    number-at-requires-3
-    try-new-requires
+    (λ c κs. search needs)
+    (λ c κs. search needs)
+    (λ c κs. search needs)
     returns-2
     returns-3)

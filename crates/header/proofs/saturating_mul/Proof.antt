@@ -8,9 +8,6 @@ use Rattle.header.proofs.saturating_mul.Tie as tie
 returns : tie.Need-returns
 returns c = simp (c .if1 .taken, mul-zero)
 
-div-if2 : tie.Need-div-if2
-div-if2 c = search needs
-
 mul-result : tie.Need-mul-result
 mul-result c =
     let b = c .before .before .args .b in
@@ -27,4 +24,4 @@ returns-3 c =
     omega (arith, div-lt-iff-lt-mul {k = b} (omega arith) .0 (c .if2 .left))
 
 pub saturating-mul-spec : {M : Type 1} → statement M
-saturating-mul-spec = tie.close (tie.spec returns div-if2 mul-result returns-2 returns-3)
+saturating-mul-spec = tie.close (tie.spec returns (λ c. search needs) mul-result returns-2 returns-3)

@@ -12,14 +12,8 @@ room : (c : tie.After-known-told)
     → GroupFits (c .before .before .before .args .byte) (read.Number (c .before .after .given .0 .0) (c .before .after .given .0 .1 .0))
 room c = rw (c .before .after .given .1) at (c .before .before .before .pre)
 
-enum-known-after : tie.Need-enum-known-after
-enum-known-after c = search needs
-
 sub-t7 : tie.Need-sub-t7
 sub-t7 c = omega (arith, room c)
-
-cast-t8 : tie.Need-cast-t8
-cast-t8 c = search needs
 
 mul-t9 : tie.Need-mul-t9
 mul-t9 c = omega (arith, room c)
@@ -29,9 +23,6 @@ add-t10 c = omega (arith, room c)
 
 add-t11 : tie.Need-add-t11
 add-t11 c = omega (arith, room c)
-
-enum-known-after-2 : tie.Need-enum-known-after-2
-enum-known-after-2 c = search needs
 
 returns : tie.Need-returns
 unfolding groupBelow
@@ -45,12 +36,12 @@ pub group-below-spec : {M : Type 1} → statement M
 group-below-spec =
     tie.close
     (tie.spec
-    enum-known-after
+    (λ c. search needs)
     sub-t7
-    cast-t8
+    (λ c. search needs)
     mul-t9
     add-t10
     add-t11
-    enum-known-after-2
+    (λ c. search needs)
     returns
     returns-2)

@@ -11,28 +11,10 @@ use Rattle.number.proofs.read.Tie as tie
 returns : tie.Need-returns
 returns c = sym (number-empty _ (c .if1 .taken))
 
-shared-slice-read-byte : tie.Need-shared-slice-read-byte
-shared-slice-read-byte c = search needs
-
-cast-t8 : tie.Need-cast-t8
-cast-t8 c = search needs
-
 returns-2 : tie.Need-returns-2
 returns-2 c =
     let bytes = c .before .before .before .before .args .bytes .now in
     simp (number-first bytes (c .before .before .if1 .left), lt-ltb _ _ (c .if2 .taken))
-
-sub-read-more : tie.Need-sub-read-more
-sub-read-more c = search needs
-
-part-read-more-start : tie.Need-part-read-more-start
-part-read-more-start c = search needs
-
-part-read-more-end : tie.Need-part-read-more-end
-part-read-more-end c = search needs
-
-read-more-requires : tie.Need-read-more-requires
-read-more-requires c κs = search needs
 
 group-below-requires : tie.Need-group-below-requires
 group-below-requires c κs =
@@ -52,12 +34,12 @@ read-spec =
     tie.close
     (tie.spec
     returns
-    shared-slice-read-byte
-    cast-t8
+    (λ c. search needs)
+    (λ c. search needs)
     returns-2
-    sub-read-more
-    part-read-more-start
-    part-read-more-end
-    read-more-requires
+    (λ c. search needs)
+    (λ c. search needs)
+    (λ c. search needs)
+    (λ c κs. search needs)
     group-below-requires
     returns-3)

@@ -9,15 +9,6 @@ use borrow.Author.Tests.{lt-ltb, le-ltb}
 use Rattle.pixel.proofs.signed.Statement.{statement}
 use Rattle.pixel.proofs.signed.Tie as tie
 
-cast-result : tie.Need-cast-result
-cast-result c = search needs
-
-sub-y : tie.Need-sub-y
-sub-y c = search needs
-
-cast-y : tie.Need-cast-y
-cast-y c = search needs
-
 returns : tie.Need-returns
 returns c = rw (lt-ltb _ _ (c .if1 .taken))
 
@@ -28,4 +19,4 @@ returns-2 c =
     rw (back, le-ltb _ _ (c .if1 .left)) (ap negsuc (omega arith))
 
 pub signed-spec : {M : Type 1} → statement M
-signed-spec = tie.close (tie.spec cast-result sub-y cast-y returns returns-2)
+signed-spec = tie.close (tie.spec (λ c. search needs) (λ c. search needs) (λ c. search needs) returns returns-2)

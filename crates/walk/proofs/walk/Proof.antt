@@ -7,36 +7,21 @@ use Rattle.walk.proofs.Fitting.{allowed}
 use Rattle.walk.proofs.walk.Statement.{statement}
 use Rattle.walk.proofs.walk.Tie as tie
 
-fits-requires : tie.Need-fits-requires
-fits-requires c κs = search needs
-
 returns : tie.Need-returns
 unfolding walkingInto
 returns c = rw (← c .before .fits2 .ensures, not-true (c .before .fits2 .result) (c .if1 .taken))
-
-enum-told : tie.Need-enum-told
-enum-told c = search needs
 
 walk-three-requires : tie.Need-walk-three-requires
 walk-three-requires c κs =
     allowed _ _ _ _ _ (placeOf (c .before .before .before .before .before .before .before .args .place)) _ _ (c .before .before .before .before .fits2 .ensures) (c .before .before .before .if1 .left) (c .before .enum-told .given .1)
 
-enum-told-2 : tie.Need-enum-told-2
-enum-told-2 c = search needs
-
 walk-four-requires : tie.Need-walk-four-requires
 walk-four-requires c κs =
     allowed _ _ _ _ _ (placeOf (c .before .before .before .before .before .before .before .args .place)) _ _ (c .before .before .before .before .fits2 .ensures) (c .before .before .before .if1 .left) (c .before .enum-told2 .given .1)
 
-same-length : tie.Need-same-length
-same-length c = search needs
-
 returns-2 : tie.Need-returns-2
 unfolding walkingInto
 returns-2 c = rw (← c .before .before .before .before .before .before .before .fits2 .ensures, not-false (c .before .before .before .before .before .before .before .fits2 .result) (c .before .before .before .before .before .before .if1 .left), c .before .before .before .before .enum-told .given .1) (c .before .before .walk-three .ensures)
-
-same-length-2 : tie.Need-same-length-2
-same-length-2 c = search needs
 
 returns-3 : tie.Need-returns-3
 unfolding walkingInto
@@ -46,13 +31,13 @@ pub walk-spec : {M : Type 1} → statement M
 walk-spec =
     tie.close
     (tie.spec
-    fits-requires
+    (λ c κs. search needs)
     returns
-    enum-told
+    (λ c. search needs)
     walk-three-requires
-    enum-told-2
+    (λ c. search needs)
     walk-four-requires
-    same-length
+    (λ c. search needs)
     returns-2
-    same-length-2
+    (λ c. search needs)
     returns-3)

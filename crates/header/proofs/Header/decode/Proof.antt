@@ -12,18 +12,6 @@ returns : tie.Need-returns
 unfolding headerOf
 returns c = rw (lt-ltb (length (now (c .before .before .args .message))) 14 (omega arith))
 
-shared-slice-read-wide : tie.Need-shared-slice-read-wide
-shared-slice-read-wide c = search needs
-
-wide-requires : tie.Need-wide-requires
-wide-requires c κs = search needs
-
-try-from-requires : tie.Need-try-from-requires
-try-from-requires c κs = search needs
-
-after-channels-requires : tie.Need-after-channels-requires
-after-channels-requires c κs = search needs
-
 returns-2 : tie.Need-returns-2
 unfolding headerOf
 returns-2 c =
@@ -35,8 +23,8 @@ decode-spec =
     tie.close
     (tie.spec
     returns
-    shared-slice-read-wide
-    wide-requires
-    try-from-requires
-    after-channels-requires
+    (λ c. search needs)
+    (λ c κs. search needs)
+    (λ c κs. search needs)
+    (λ c κs. search needs)
     returns-2)

@@ -7,9 +7,6 @@ use Rattle.header.specs.Header.{headerFrom}
 use Rattle.header.proofs.Header.try_new.Statement.{statement}
 use Rattle.header.proofs.Header.try_new.Tie as tie
 
-product-requires : tie.Need-product-requires
-product-requires c κs = search needs
-
 returns : tie.Need-returns
 unfolding headerFrom
 returns c =
@@ -29,4 +26,4 @@ returns-3 c =
     rw (le-leb 1 pixels (omega arith), le-leb pixels 400000000 (omega arith))
 
 pub try-new-spec : {M : Type 1} → statement M
-try-new-spec = tie.close (tie.spec product-requires returns returns-2 returns-3)
+try-new-spec = tie.close (tie.spec (λ c κs. search needs) returns returns-2 returns-3)

@@ -8,9 +8,6 @@ use Rattle.pixel.proofs.PackedLaws.{below-alpha, unpacked-packed}
 use Rattle.pixel.proofs.packed.opaque.Statement.{statement}
 use Rattle.pixel.proofs.packed.opaque.Tie as tie
 
-add-result : tie.Need-add-result
-add-result c = search needs
-
 returns : tie.Need-returns
 unfolding unpacked
 returns c =
@@ -18,4 +15,4 @@ returns c =
     rw (below-alpha p) (unpacked-packed (p % 256) (p / 256 % 256) (p / 65536 % 256) 255 (omega arith) (omega arith) (omega arith) (omega arith))
 
 pub opaque-spec : {M : Type 1} → statement M
-opaque-spec = tie.close (tie.spec add-result returns)
+opaque-spec = tie.close (tie.spec (λ c. search needs) returns)

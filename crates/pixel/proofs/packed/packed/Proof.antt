@@ -9,21 +9,6 @@ use borrow.Author.Needs.{needs}
 use Rattle.pixel.proofs.packed.packed.Statement.{statement}
 use Rattle.pixel.proofs.packed.packed.Tie as tie
 
-r-requires : tie.Need-r-requires
-r-requires c κs = search needs
-
-g-requires : tie.Need-g-requires
-g-requires c κs = search needs
-
-b-requires : tie.Need-b-requires
-b-requires c κs = search needs
-
-a-requires : tie.Need-a-requires
-a-requires c κs = search needs
-
-pack-requires : tie.Need-pack-requires
-pack-requires c κs = search needs
-
 -- a list of four is its four elements
 of-four : (l : List ℕ) → length l ≡ 4 → getD l 0 0 ∷ getD l 1 0 ∷ getD l 2 0 ∷ getD l 3 0 ∷ [] ≡ l
 of-four [] e = absurd (omega (arith, e))
@@ -44,4 +29,4 @@ returns c =
     (λ i. record { rgba = of-four (start .args .p .rgba) (four start) i })
 
 pub packed-spec : {M : Type 1} → statement M
-packed-spec = tie.close (tie.spec r-requires g-requires b-requires a-requires pack-requires returns)
+packed-spec = tie.close (tie.spec (λ c κs. search needs) (λ c κs. search needs) (λ c κs. search needs) (λ c κs. search needs) (λ c κs. search needs) returns)

@@ -9,39 +9,6 @@ use Rattle.pixel.specs.Packed.{unpacked}
 use Rattle.pixel.proofs.packed.slot.Statement.{statement}
 use Rattle.pixel.proofs.packed.slot.Tie as tie
 
-cast-even : tie.Need-cast-even
-cast-even c = search needs
-
-cast-even-2 : tie.Need-cast-even-2
-cast-even-2 c = search needs
-
-mul-even : tie.Need-mul-even
-mul-even c = search needs
-
-add-even : tie.Need-add-even
-add-even c = search needs
-
-cast-odd : tie.Need-cast-odd
-cast-odd c = search needs
-
-cast-odd-2 : tie.Need-cast-odd-2
-cast-odd-2 c = search needs
-
-mul-odd : tie.Need-mul-odd
-mul-odd c = search needs
-
-add-odd : tie.Need-add-odd
-add-odd c = search needs
-
-mul-result : tie.Need-mul-result
-mul-result c = search needs
-
-mul-result-2 : tie.Need-mul-result-2
-mul-result-2 c = search needs
-
-add-result : tie.Need-add-result
-add-result c = search needs
-
 returns : tie.Need-returns
 unfolding slotOf unpacked
 returns c =
@@ -52,15 +19,15 @@ pub slot-spec : {M : Type 1} → statement M
 slot-spec =
     tie.close
     (tie.spec
-    cast-even
-    cast-even-2
-    mul-even
-    add-even
-    cast-odd
-    cast-odd-2
-    mul-odd
-    add-odd
-    mul-result
-    mul-result-2
-    add-result
+    (λ c. search needs)
+    (λ c. search needs)
+    (λ c. search needs)
+    (λ c. search needs)
+    (λ c. search needs)
+    (λ c. search needs)
+    (λ c. search needs)
+    (λ c. search needs)
+    (λ c. search needs)
+    (λ c. search needs)
+    (λ c. search needs)
     returns)

@@ -6,21 +6,6 @@ use Rattle.pixel.specs.Packed.{unpacked}
 use Rattle.pixel.proofs.packed.unpack.Statement.{statement}
 use Rattle.pixel.proofs.packed.unpack.Tie as tie
 
-red-requires : tie.Need-red-requires
-red-requires c κs = search needs
-
-green-requires : tie.Need-green-requires
-green-requires c κs = search needs
-
-blue-requires : tie.Need-blue-requires
-blue-requires c κs = search needs
-
-alpha-requires : tie.Need-alpha-requires
-alpha-requires c κs = search needs
-
-new-requires : tie.Need-new-requires
-new-requires c κs = search needs
-
 returns : tie.Need-returns
 unfolding unpacked
 returns c =
@@ -29,4 +14,4 @@ returns c =
 
 pub unpack-spec : {M : Type 1} → statement M
 unpack-spec =
-    tie.close (tie.spec red-requires green-requires blue-requires alpha-requires new-requires returns)
+    tie.close (tie.spec (λ c κs. search needs) (λ c κs. search needs) (λ c κs. search needs) (λ c κs. search needs) (λ c κs. search needs) returns)

@@ -4,14 +4,8 @@ use borrow.Author.Needs.{needs}
 use Rattle.resume.proofs.Decoder.idle.Statement.{statement}
 use Rattle.resume.proofs.Decoder.idle.Tie as tie
 
-default-requires : tie.Need-default-requires
-default-requires c κs = search needs
-
-fresh-requires : tie.Need-fresh-requires
-fresh-requires c κs = search needs
-
 returns : tie.Need-returns
 returns c = simp (c .fresh .ensures, c .before .default .ensures)
 
 pub idle-spec : {M : Type 1} → statement M
-idle-spec = tie.close (tie.spec default-requires fresh-requires returns)
+idle-spec = tie.close (tie.spec (λ c κs. search needs) (λ c κs. search needs) returns)

@@ -14,18 +14,9 @@ use Rattle.resume.proofs.Parts.{record-parts}
 use Rattle.resume.proofs.Decoder.record_len.Statement.{statement}
 use Rattle.resume.proofs.Decoder.record_len.Tie as tie
 
-len-requires : tie.Need-len-requires
-len-requires c κs = search needs
-
-len-requires-2 : tie.Need-len-requires-2
-len-requires-2 c κs = search needs
-
 add-numbers : tie.Need-add-numbers
 add-numbers c =
     record { fits = omega (arith, c .before .len .ensures, c .len2 .ensures, length-at-most-ten (c .before .before .args .self .wanted), length-at-most-ten (c .before .before .args .self .at)) }
-
-len-requires-3 : tie.Need-len-requires-3
-len-requires-3 c κs = search needs
 
 -- three numbers take thirty bytes at most
 few : (c : tie.After-len3) → c .before .before .len .result + c .before .len2 .result + c .len3 .result ≤ 30
@@ -53,10 +44,10 @@ pub record-len-spec : {M : Type 1} → statement M
 record-len-spec =
     tie.close
     (tie.spec
-    len-requires
-    len-requires-2
+    (λ c κs. search needs)
+    (λ c κs. search needs)
     add-numbers
-    len-requires-3
+    (λ c κs. search needs)
     add-numbers-2
     add-result
     add-result-2

@@ -6,14 +6,8 @@ use Rattle.resume.proofs.RunLaws.{run-one}
 use Rattle.resume.proofs.Decoder.step.Statement.{statement}
 use Rattle.resume.proofs.Decoder.step.Tie as tie
 
-run-requires : tie.Need-run-requires
-run-requires c κs = search needs
-
-same-length : tie.Need-same-length
-same-length c = search needs
-
 returns : tie.Need-returns
 returns c = c .before .before .run .ensures ∙ run-one (c .before .before .before .before .before .before .args .message .now) _ (c .before .before .before .before .before .before .args .out .now)
 
 pub step-spec : {M : Type 1} → statement M
-step-spec = tie.close (tie.spec run-requires same-length returns)
+step-spec = tie.close (tie.spec (λ c κs. search needs) (λ c. search needs) returns)

@@ -9,30 +9,12 @@ use Rattle.rules.proofs.PastingLaws.{whole-tail}
 use Rattle.resume.proofs.Decoder.take_up.Statement.{statement}
 use Rattle.resume.proofs.Decoder.take_up.Tie as tie
 
-decode-requires : tie.Need-decode-requires
-decode-requires c κs = search needs
-
-enum-known-e : tie.Need-enum-known-e
-enum-known-e c = search needs
-
-refused-requires : tie.Need-refused-requires
-refused-requires c κs = search needs
-
-enum-known-header : tie.Need-enum-known-header
-enum-known-header c = search needs
-
 sub-read-wanted : tie.Need-sub-read-wanted
 sub-read-wanted c =
     omega (arith, header-accepted _ _ (sym (c .before .before .before .decode .ensures) ∙ c .before .header .given .1) .whole)
 
 part-read-wanted-start : tie.Need-part-read-wanted-start
 part-read-wanted-start c = sub-read-wanted c
-
-part-read-wanted-end : tie.Need-part-read-wanted-end
-part-read-wanted-end c = search needs
-
-read-wanted-requires : tie.Need-read-wanted-requires
-read-wanted-requires c κs = search needs
 
 returns : tie.Need-returns
 unfolding readRecord readWanted
@@ -47,13 +29,13 @@ pub take-up-spec : {M : Type 1} → statement M
 take-up-spec =
     tie.close
     (tie.spec
-    decode-requires
-    enum-known-e
-    refused-requires
-    enum-known-header
+    (λ c κs. search needs)
+    (λ c. search needs)
+    (λ c κs. search needs)
+    (λ c. search needs)
     sub-read-wanted
     part-read-wanted-start
-    part-read-wanted-end
-    read-wanted-requires
+    (λ c. search needs)
+    (λ c κs. search needs)
     returns
     returns-2)

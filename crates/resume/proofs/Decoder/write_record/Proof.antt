@@ -14,27 +14,15 @@ use Rattle.resume.specs.State.{stateOf}
 use Rattle.resume.proofs.Decoder.write_record.Statement.{statement}
 use Rattle.resume.proofs.Decoder.write_record.Tie as tie
 
-well-formed-requires : tie.Need-well-formed-requires
-well-formed-requires c κs = search needs
-
 returns : tie.Need-returns
 unfolding recording recordedOver
 returns c =
     rw (← c .before .well-formed .ensures, not-true (c .before .well-formed .result) (c .if1 .taken)) (refl, refl)
 
-record-len-requires : tie.Need-record-len-requires
-record-len-requires c κs = search needs
-
 returns-2 : tie.Need-returns-2
 unfolding recording recordedOver
 returns-2 c =
     rw (← c .before .before .before .well-formed .ensures, not-false (c .before .before .before .well-formed .result) (c .before .before .if1 .left), ← c .before .record-len .ensures, lt-ltb _ _ (c .if2 .taken)) (refl, refl)
-
-put-record-requires : tie.Need-put-record-requires
-put-record-requires c κs = search needs
-
-same-length : tie.Need-same-length
-same-length c = search needs
 
 returns-3 : tie.Need-returns-3
 unfolding recording recordedOver
@@ -49,10 +37,10 @@ pub write-record-spec : {M : Type 1} → statement M
 write-record-spec =
     tie.close
     (tie.spec
-    well-formed-requires
+    (λ c κs. search needs)
     returns
-    record-len-requires
+    (λ c κs. search needs)
     returns-2
-    put-record-requires
-    same-length
+    (λ c κs. search needs)
+    (λ c. search needs)
     returns-3)

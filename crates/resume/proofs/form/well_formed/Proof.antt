@@ -13,9 +13,6 @@ use Rattle.resume.specs.State.{stateOf}
 use Rattle.resume.proofs.form.well_formed.Statement.{statement}
 use Rattle.resume.proofs.form.well_formed.Tie as tie
 
-n-pixels-requires : tie.Need-n-pixels-requires
-n-pixels-requires c κs = search needs
-
 -- a header whose pixels passed both tests
 passed : (d : Decoder) {n : ℕ} → n ≡ pixelCount (d .header) → 1 ≤ n → n ≤ 400000000 → headerPasses (stateOf d) ≡ true
 passed d {n} is some few = rw (← is, le-leb 1 n some, le-leb n 400000000 few)
@@ -49,9 +46,6 @@ returns-4 c =
     rw (passed d n (omega arith) (omega arith), le-leb 14 (d .at) (omega arith), lt-leb (d .pixel) (pixelCount (d .header)) (omega arith))
     (sym (and-false (wantedPasses (stateOf d))))
 
-a-requires : tie.Need-a-requires
-a-requires c κs = search needs
-
 returns-5 : tie.Need-returns-5
 unfolding wellFormed
 returns-5 c =
@@ -71,11 +65,11 @@ pub well-formed-spec : {M : Type 1} → statement M
 well-formed-spec =
     tie.close
     (tie.spec
-    n-pixels-requires
+    (λ c κs. search needs)
     returns
     returns-2
     returns-3
     returns-4
-    a-requires
+    (λ c κs. search needs)
     returns-5
     returns-6)

@@ -7,24 +7,6 @@ use Rattle.resume.specs.State.{freshState}
 use Rattle.resume.proofs.opening.with_wanted.Statement.{statement}
 use Rattle.resume.proofs.opening.with_wanted.Tie as tie
 
-enum-known-wanted : tie.Need-enum-known-wanted
-enum-known-wanted c = search needs
-
-refused-requires : tie.Need-refused-requires
-refused-requires c κs = search needs
-
-enum-known-wanted-2 : tie.Need-enum-known-wanted-2
-enum-known-wanted-2 c = search needs
-
-as-u8-requires : tie.Need-as-u8-requires
-as-u8-requires c κs = search needs
-
-cast-fresh : tie.Need-cast-fresh
-cast-fresh c = search needs
-
-fresh-requires : tie.Need-fresh-requires
-fresh-requires c κs = search needs
-
 returns : tie.Need-returns
 unfolding startWanted
 returns c = rw (c .before .before .wanted .given .1) (c .refused .ensures)
@@ -38,11 +20,11 @@ pub with-wanted-spec : {M : Type 1} → statement M
 with-wanted-spec =
     tie.close
     (tie.spec
-    enum-known-wanted
-    refused-requires
-    enum-known-wanted-2
-    as-u8-requires
-    cast-fresh
-    fresh-requires
+    (λ c. search needs)
+    (λ c κs. search needs)
+    (λ c. search needs)
+    (λ c κs. search needs)
+    (λ c. search needs)
+    (λ c κs. search needs)
     returns
     returns-2)

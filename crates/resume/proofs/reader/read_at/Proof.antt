@@ -9,30 +9,12 @@ use Rattle.rules.proofs.PastingLaws.{whole-tail}
 use Rattle.resume.proofs.reader.read_at.Statement.{statement}
 use Rattle.resume.proofs.reader.read_at.Tie as tie
 
-read-requires : tie.Need-read-requires
-read-requires c κs = search needs
-
-enum-known-e : tie.Need-enum-known-e
-enum-known-e c = search needs
-
-refused-requires : tie.Need-refused-requires
-refused-requires c κs = search needs
-
-enum-known-value : tie.Need-enum-known-value
-enum-known-value c = search needs
-
 sub-read-pixel : tie.Need-sub-read-pixel
 sub-read-pixel c =
     omega (arith, read-bounds _ _ _ (λ i h. c .before .before .before .before .shared-slice-known .given i .fits) (sym (c .before .before .before .read .ensures) ∙ c .before .value .given .1))
 
 part-read-pixel-start : tie.Need-part-read-pixel-start
 part-read-pixel-start c = sub-read-pixel c
-
-part-read-pixel-end : tie.Need-part-read-pixel-end
-part-read-pixel-end c = search needs
-
-read-pixel-requires : tie.Need-read-pixel-requires
-read-pixel-requires c κs = search needs
 
 returns : tie.Need-returns
 unfolding withNumber
@@ -47,13 +29,13 @@ pub read-at-spec : {M : Type 1} → statement M
 read-at-spec =
     tie.close
     (tie.spec
-    read-requires
-    enum-known-e
-    refused-requires
-    enum-known-value
+    (λ c κs. search needs)
+    (λ c. search needs)
+    (λ c κs. search needs)
+    (λ c. search needs)
     sub-read-pixel
     part-read-pixel-start
-    part-read-pixel-end
-    read-pixel-requires
+    (λ c. search needs)
+    (λ c κs. search needs)
     returns
     returns-2)

@@ -7,19 +7,10 @@ use Rattle.rules.specs.Record.{readEnd}
 use Rattle.resume.proofs.reader.read_end.Statement.{statement}
 use Rattle.resume.proofs.reader.read_end.Tie as tie
 
-well-formed-requires : tie.Need-well-formed-requires
-well-formed-requires c κs = search needs
-
-refused-requires : tie.Need-refused-requires
-refused-requires c κs = search needs
-
 returns : tie.Need-returns
 unfolding readEnd
 returns c =
     rw (← c .before .before .well-formed .ensures, not-true (c .before .before .well-formed .result) (c .before .if1 .taken)) (c .refused .ensures)
-
-refused-requires-2 : tie.Need-refused-requires-2
-refused-requires-2 c κs = search needs
 
 returns-2 : tie.Need-returns-2
 unfolding readEnd
@@ -34,4 +25,4 @@ returns-3 c =
 pub read-end-spec : {M : Type 1} → statement M
 read-end-spec =
     tie.close
-    (tie.spec well-formed-requires refused-requires returns refused-requires-2 returns-2 returns-3)
+    (tie.spec (λ c κs. search needs) (λ c κs. search needs) returns (λ c κs. search needs) returns-2 returns-3)

@@ -9,30 +9,12 @@ use Rattle.rules.proofs.PastingLaws.{whole-tail}
 use Rattle.resume.proofs.reader.read_pixel.Statement.{statement}
 use Rattle.resume.proofs.reader.read_pixel.Tie as tie
 
-read-requires : tie.Need-read-requires
-read-requires c κs = search needs
-
-enum-known-e : tie.Need-enum-known-e
-enum-known-e c = search needs
-
-refused-requires : tie.Need-refused-requires
-refused-requires c κs = search needs
-
-enum-known-value : tie.Need-enum-known-value
-enum-known-value c = search needs
-
 sub-read-slots : tie.Need-sub-read-slots
 sub-read-slots c =
     omega (arith, read-bounds _ _ _ (λ i h. c .before .before .before .before .shared-slice-known .given i .fits) (sym (c .before .before .before .read .ensures) ∙ c .before .value .given .1))
 
 part-read-slots-start : tie.Need-part-read-slots-start
 part-read-slots-start c = sub-read-slots c
-
-part-read-slots-end : tie.Need-part-read-slots-end
-part-read-slots-end c = search needs
-
-read-slots-requires : tie.Need-read-slots-requires
-read-slots-requires c κs = search needs
 
 returns : tie.Need-returns
 unfolding withNumber
@@ -47,13 +29,13 @@ pub read-pixel-spec : {M : Type 1} → statement M
 read-pixel-spec =
     tie.close
     (tie.spec
-    read-requires
-    enum-known-e
-    refused-requires
-    enum-known-value
+    (λ c κs. search needs)
+    (λ c. search needs)
+    (λ c κs. search needs)
+    (λ c. search needs)
     sub-read-slots
     part-read-slots-start
-    part-read-slots-end
-    read-slots-requires
+    (λ c. search needs)
+    (λ c κs. search needs)
     returns
     returns-2)

@@ -5,24 +5,6 @@ use Rattle.rules.specs.Record.{readPositions}
 use Rattle.resume.proofs.reader.read_positions.Statement.{statement}
 use Rattle.resume.proofs.reader.read_positions.Tie as tie
 
-enum-known-wanted : tie.Need-enum-known-wanted
-enum-known-wanted c = search needs
-
-refused-requires : tie.Need-refused-requires
-refused-requires c κs = search needs
-
-enum-known-wanted-2 : tie.Need-enum-known-wanted-2
-enum-known-wanted-2 c = search needs
-
-as-u8-requires : tie.Need-as-u8-requires
-as-u8-requires c κs = search needs
-
-cast-read-at : tie.Need-cast-read-at
-cast-read-at c = search needs
-
-read-at-requires : tie.Need-read-at-requires
-read-at-requires c κs = search needs
-
 returns : tie.Need-returns
 unfolding readPositions
 returns c = rw (c .before .before .wanted .given .1) (c .refused .ensures)
@@ -35,11 +17,11 @@ pub read-positions-spec : {M : Type 1} → statement M
 read-positions-spec =
     tie.close
     (tie.spec
-    enum-known-wanted
-    refused-requires
-    enum-known-wanted-2
-    as-u8-requires
-    cast-read-at
-    read-at-requires
+    (λ c. search needs)
+    (λ c κs. search needs)
+    (λ c. search needs)
+    (λ c κs. search needs)
+    (λ c. search needs)
+    (λ c κs. search needs)
     returns
     returns-2)

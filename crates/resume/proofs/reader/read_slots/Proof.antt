@@ -10,33 +10,9 @@ use Rattle.rules.proofs.PastingLaws.{whole-tail}
 use Rattle.resume.proofs.reader.read_slots.Statement.{statement}
 use Rattle.resume.proofs.reader.read_slots.Tie as tie
 
-refused-requires : tie.Need-refused-requires
-refused-requires c κs = search needs
-
 returns : tie.Need-returns
 unfolding readSlots
 returns c = rw (lt-ltb _ 260 (c .before .if1 .taken)) (c .refused .ensures)
-
-pixel-at-requires : tie.Need-pixel-at-requires
-pixel-at-requires c κs = search needs
-
-sub-slots-from : tie.Need-sub-slots-from
-sub-slots-from c = search needs
-
-part-slots-from-start : tie.Need-part-slots-from-start
-part-slots-from-start c = search needs
-
-part-slots-from-end : tie.Need-part-slots-from-end
-part-slots-from-end c = search needs
-
-slots-from-requires : tie.Need-slots-from-requires
-slots-from-requires c κs = search needs
-
-sub-read-end : tie.Need-sub-read-end
-sub-read-end c = search needs
-
-read-end-requires : tie.Need-read-end-requires
-read-end-requires c κs = search needs
 
 returns-2 : tie.Need-returns-2
 unfolding readSlots
@@ -49,13 +25,13 @@ pub read-slots-spec : {M : Type 1} → statement M
 read-slots-spec =
     tie.close
     (tie.spec
-    refused-requires
+    (λ c κs. search needs)
     returns
-    pixel-at-requires
-    sub-slots-from
-    part-slots-from-start
-    part-slots-from-end
-    slots-from-requires
-    sub-read-end
-    read-end-requires
+    (λ c κs. search needs)
+    (λ c. search needs)
+    (λ c. search needs)
+    (λ c. search needs)
+    (λ c κs. search needs)
+    (λ c. search needs)
+    (λ c κs. search needs)
     returns-2)

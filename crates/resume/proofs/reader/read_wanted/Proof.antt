@@ -9,33 +9,12 @@ use Rattle.rules.proofs.PastingLaws.{whole-tail}
 use Rattle.resume.proofs.reader.read_wanted.Statement.{statement}
 use Rattle.resume.proofs.reader.read_wanted.Tie as tie
 
-read-requires : tie.Need-read-requires
-read-requires c κs = search needs
-
-enum-known-e : tie.Need-enum-known-e
-enum-known-e c = search needs
-
-refused-requires : tie.Need-refused-requires
-refused-requires c κs = search needs
-
-enum-known-value : tie.Need-enum-known-value
-enum-known-value c = search needs
-
-try-from-requires : tie.Need-try-from-requires
-try-from-requires c κs = search needs
-
 sub-read-positions : tie.Need-sub-read-positions
 sub-read-positions c =
     omega (arith, read-bounds _ _ _ (λ i h. c .before .before .before .before .before .shared-slice-known .given i .fits) (sym (c .before .before .before .before .read .ensures) ∙ c .before .before .value .given .1))
 
 part-read-positions-start : tie.Need-part-read-positions-start
 part-read-positions-start c = sub-read-positions c
-
-part-read-positions-end : tie.Need-part-read-positions-end
-part-read-positions-end c = search needs
-
-read-positions-requires : tie.Need-read-positions-requires
-read-positions-requires c κs = search needs
 
 returns : tie.Need-returns
 unfolding readWanted withNumber
@@ -50,14 +29,14 @@ pub read-wanted-spec : {M : Type 1} → statement M
 read-wanted-spec =
     tie.close
     (tie.spec
-    read-requires
-    enum-known-e
-    refused-requires
-    enum-known-value
-    try-from-requires
+    (λ c κs. search needs)
+    (λ c. search needs)
+    (λ c κs. search needs)
+    (λ c. search needs)
+    (λ c κs. search needs)
     sub-read-positions
     part-read-positions-start
-    part-read-positions-end
-    read-positions-requires
+    (λ c. search needs)
+    (λ c κs. search needs)
     returns
     returns-2)

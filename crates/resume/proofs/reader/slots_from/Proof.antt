@@ -21,30 +21,9 @@ Inv-loop bytes slots₀ i₀ slots i =
 abbrev μ-loop : tie.MeasureT-loop
 μ-loop bytes slots₀ i₀ slots i = 64 - i
 
-clear-requires : tie.Need-clear-requires Inv-loop μ-loop
-clear-requires c κs = search needs
-
 loop-holds : tie.Need-loop-holds Inv-loop μ-loop
 unfolding pixelsFrom
 loop-holds c = (omega arith, refl, refl)
-
-mul-pixel-at : tie.Need-mul-pixel-at Inv-loop μ-loop
-mul-pixel-at c = search needs
-
-pixel-at-requires : tie.Need-pixel-at-requires Inv-loop μ-loop
-pixel-at-requires c κs = search needs
-
-mul-slots : tie.Need-mul-slots Inv-loop μ-loop
-mul-slots c = search needs
-
-array-set-from-slots : tie.Need-array-set-from-slots Inv-loop μ-loop
-array-set-from-slots c = search needs
-
-add-i : tie.Need-add-i Inv-loop μ-loop
-add-i c = search needs
-
-loop-less : tie.Need-loop-less Inv-loop μ-loop
-loop-less c = search needs
 
 loop-again : tie.Need-loop-again Inv-loop μ-loop
 loop-again c =
@@ -68,13 +47,13 @@ slots-from-spec =
     (tie.spec
     Inv-loop
     μ-loop
-    clear-requires
+    (λ c κs. search needs)
     loop-holds
-    mul-pixel-at
-    pixel-at-requires
-    mul-slots
-    array-set-from-slots
-    add-i
-    loop-less
+    (λ c. search needs)
+    (λ c κs. search needs)
+    (λ c. search needs)
+    (λ c. search needs)
+    (λ c. search needs)
+    (λ c. search needs)
     loop-again
     returns)

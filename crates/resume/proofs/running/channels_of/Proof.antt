@@ -18,11 +18,8 @@ other w t differs = go (eqb w 3) refl (eqb w 4) refl t
     go false e true f t = sym (eqb-true w 4 f)
     go false e false f t = absurd t
 
-returns : tie.Need-returns
-returns c = search needs
-
 returns-2 : tie.Need-returns-2
 returns-2 c = other (c .before .args .wanted) (c .before .pre) (c .if1 .left)
 
 pub channels-of-spec : {M : Type 1} → statement M
-channels-of-spec = tie.close (tie.spec returns returns-2)
+channels-of-spec = tie.close (tie.spec (λ c. search needs) returns-2)

@@ -66,9 +66,6 @@ still-inside c =
     (c .before .least .result) (few (c .before)) (part (c .before .before .before .before .before .before .before .before .before .before)) (whole-tail (c .before .before .before .before .before .before .before .before .before .before .args .out .now) (c .before .before .before .before .before .before .before .before .before .before .args .decoder .pixel * c .before .before .before .before .before .before .before .before .before .before .args .decoder .wanted))
     (walkOf (c .walk .result) (c .walk .last .1 .1 .1 .1 .0)) (c .walk .ensures)
 
-n-pixels-requires : tie.Need-n-pixels-requires
-n-pixels-requires c κs = search needs
-
 sub-most : tie.Need-sub-most
 sub-most c = omega (arith, within (c .before .before .before .before .before .before) .0, c .n-pixels .ensures)
 
@@ -90,32 +87,14 @@ sub-walk c = before-fits (c .before .before .before .before .before .before .bef
 part-walk-start : tie.Need-part-walk-start
 part-walk-start c = before-fits (c .before .before .before .before .before .before .before)
 
-part-walk-end : tie.Need-part-walk-end
-part-walk-end c = search needs
-
-least-requires : tie.Need-least-requires
-least-requires c κs = search needs
-
-walk-requires : tie.Need-walk-requires
-walk-requires c κs = search needs
-
-same-length : tie.Need-same-length
-same-length c = search needs
-
 returns : tie.Need-returns
 returns c = answers-cut (c .before .before .before .before .before .before .before .before .before .before .before .before .before .before .before .before .args .decoder .header) (c .before .before .before .before .before .before .before .before .before .before .before .before .before .before .before .before .args .decoder .wanted) (c .before .before .before .before .before .before .before .before .before .before .before .before .before .before .before .before .args .message .now) (c .before .before .before .before .before .before .before .before .before .before .before .before .before .before .before .before .args .out .now) (c .before .before .before .before .before .before .before .before .before .before .before .before .before .before .before .before .args .decoder .pixel * c .before .before .before .before .before .before .before .before .before .before .before .before .before .before .before .before .args .decoder .wanted) (walkOf (c .before .before .before .before .before .before .walk .result) (c .before .before .before .before .before .before .walk .last .1 .1 .1 .1 .0)) _ (ran (c .before .before .before .before .before .before)) (before-fits (c .before .before .before .before .before .before .before .before .before .before .before .before .before .before .before .before)) (c .if1 .taken)
-
-same-length-2 : tie.Need-same-length-2
-same-length-2 c = search needs
 
 returns-2 : tie.Need-returns-2
 returns-2 c = answers-more (c .before .before .before .before .before .before .before .before .before .before .before .before .before .before .before .before .before .before .args .decoder .header) (c .before .before .before .before .before .before .before .before .before .before .before .before .before .before .before .before .before .before .args .decoder .wanted) (c .before .before .before .before .before .before .before .before .before .before .before .before .before .before .before .before .before .before .args .message .now) (c .before .before .before .before .before .before .before .before .before .before .before .before .before .before .before .before .before .before .args .out .now) (c .before .before .before .before .before .before .before .before .before .before .before .before .before .before .before .before .before .before .args .decoder .pixel * c .before .before .before .before .before .before .before .before .before .before .before .before .before .before .before .before .before .before .args .decoder .wanted) (walkOf (c .before .before .before .before .before .before .before .before .walk .result) (c .before .before .before .before .before .before .before .before .walk .last .1 .1 .1 .1 .0)) _ (ran (c .before .before .before .before .before .before .before .before)) (before-fits (c .before .before .before .before .before .before .before .before .before .before .before .before .before .before .before .before .before .before)) (c .before .before .if1 .left) (c .if2 .taken)
 
 close-requires : tie.Need-close-requires
 close-requires c κs = still-inside (c .before .before .before .before .before .before .before .before)
-
-same-length-3 : tie.Need-same-length-3
-same-length-3 c = search needs
 
 returns-3 : tie.Need-returns-3
 returns-3 c = answers-end (c .before .before .before .before .before .before .before .before .before .before .before .before .before .before .before .before .before .before .before .args .decoder .header) (c .before .before .before .before .before .before .before .before .before .before .before .before .before .before .before .before .before .before .before .args .decoder .wanted) (c .before .before .before .before .before .before .before .before .before .before .before .before .before .before .before .before .before .before .before .args .message .now) (c .before .before .before .before .before .before .before .before .before .before .before .before .before .before .before .before .before .before .before .args .out .now) (c .before .before .before .before .before .before .before .before .before .before .before .before .before .before .before .before .before .before .before .args .decoder .pixel * c .before .before .before .before .before .before .before .before .before .before .before .before .before .before .before .before .before .before .before .args .decoder .wanted) (walkOf (c .before .before .before .before .before .before .before .before .before .walk .result) (c .before .before .before .before .before .before .before .before .before .walk .last .1 .1 .1 .1 .0)) _ (ran (c .before .before .before .before .before .before .before .before .before)) (before-fits (c .before .before .before .before .before .before .before .before .before .before .before .before .before .before .before .before .before .before .before)) (c .before .before .before .if1 .left) (c .before .if2 .left) _ (c .before .before .before .before .before .before .before .before .before .before .before .before .before .before .before .before .before .before .before .pre .counted) _ (c .close .ensures)
@@ -124,20 +103,20 @@ pub go-on-spec : {M : Type 1} → statement M
 go-on-spec =
     tie.close
     (tie.spec
-    n-pixels-requires
+    (λ c κs. search needs)
     sub-most
     add-most
     channels-of-requires
     mul-from
     sub-walk
     part-walk-start
-    part-walk-end
-    least-requires
-    walk-requires
-    same-length
+    (λ c. search needs)
+    (λ c κs. search needs)
+    (λ c κs. search needs)
+    (λ c. search needs)
     returns
-    same-length-2
+    (λ c. search needs)
     returns-2
     close-requires
-    same-length-3
+    (λ c. search needs)
     returns-3)

@@ -27,16 +27,10 @@ size c = ap (λ (n : ℕ). n * c .before .before .before .before .before .before
 returns : tie.Need-returns
 returns c = rw (c .if1 .taken) (run-none _ _ _)
 
-well-formed-requires : tie.Need-well-formed-requires
-well-formed-requires c κs = search needs
-
 returns-2 : tie.Need-returns-2
 returns-2 c =
     run-bad (c .before .before .before .before .before .args .message .now) (c .before .before .before .before .before .args .steps) (stateOf (c .before .before .before .before .before .args .decoder)) (c .before .before .before .before .before .args .out .now) (c .before .before .if1 .left)
     (sym (c .before .well-formed .ensures) ∙ not-true (c .before .well-formed .result) (c .if2 .taken))
-
-n-pixels-requires : tie.Need-n-pixels-requires
-n-pixels-requires c κs = search needs
 
 mul-required : tie.Need-mul-required
 mul-required c =
@@ -57,23 +51,17 @@ go-on-requires : tie.Need-go-on-requires
 go-on-requires c κs =
     record { well = well (c .before .before .before .before); counted = size (c .before .before .before .before); room = c .before .before .before .if3 .left; inside = c .before .if4 .left }
 
-same-length : tie.Need-same-length
-same-length c = search needs
-
-returns-5 : tie.Need-returns-5
-returns-5 c = search needs
-
 pub run-spec : {M : Type 1} → statement M
 run-spec =
     tie.close
     (tie.spec
     returns
-    well-formed-requires
+    (λ c κs. search needs)
     returns-2
-    n-pixels-requires
+    (λ c κs. search needs)
     mul-required
     returns-3
     returns-4
     go-on-requires
-    same-length
-    returns-5)
+    (λ c. search needs)
+    (λ c. search needs))

@@ -8,15 +8,6 @@ use Rattle.resume.proofs.Parts.{put-next}
 use Rattle.resume.proofs.writer.put_pixels.Statement.{statement}
 use Rattle.resume.proofs.writer.put_pixels.Tie as tie
 
-put-pixel-requires : tie.Need-put-pixel-requires
-put-pixel-requires c κs = search needs
-
-put-slots-requires : tie.Need-put-slots-requires
-put-slots-requires c κs = search needs
-
-same-length : tie.Need-same-length
-same-length c = search needs
-
 returns : tie.Need-returns
 returns c =
     let a = c .before .before .before .before .before .before .before .before .before .args in
@@ -25,4 +16,4 @@ returns c =
     ∙ put-next (a .out .now) (first .last .0) (a .start) (first .result) (a .current .rgba) (pixelsBytes (a .slots)) (first .ensures .1) (first .ensures .0) (omega arith)
 
 pub put-pixels-spec : {M : Type 1} → statement M
-put-pixels-spec = tie.close (tie.spec put-pixel-requires put-slots-requires same-length returns)
+put-pixels-spec = tie.close (tie.spec (λ c κs. search needs) (λ c κs. search needs) (λ c. search needs) returns)

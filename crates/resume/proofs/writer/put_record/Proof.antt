@@ -12,12 +12,6 @@ use Rattle.resume.proofs.Parts.{put-next, numbersOf, pixelsOf, record-j
 use Rattle.resume.proofs.writer.put_record.Statement.{statement}
 use Rattle.resume.proofs.writer.put_record.Tie as tie
 
-encode-requires : tie.Need-encode-requires
-encode-requires c κs = search needs
-
-slice-aggregate-put : tie.Need-slice-aggregate-put
-slice-aggregate-put c = search needs
-
 put-requires : tie.Need-put-requires
 put-requires c κs =
     let d = c .before .before .before .before .before .args .decoder in
@@ -32,9 +26,6 @@ put-pixels-requires : tie.Need-put-pixels-requires
 put-pixels-requires c κs =
     let d = c .before .before .before .before .before .before .before .before .before .before .before .before .before .before .before .args .decoder in
     omega (arith, record-parts (stateOf d), c .before .before .before .before .before .before .before .before .before .before .before .before .before .before .before .pre, c .before .before .before .before .before .before .before .before .before .put .ensures .0, c .before .before .before .before .before .before .before .before .before .put .kept .0, simp length-append at (c .before .before .before .before .before .put-numbers .ensures .0), c .before .before .before .before .before .put-numbers .kept .0, ap length (c .before .before .before .before .before .before .before .before .before .before .before .before .encode .ensures), header-length (d .header))
-
-same-length : tie.Need-same-length
-same-length c = search needs
 
 returns : tie.Need-returns
 returns c =
@@ -57,10 +48,10 @@ pub put-record-spec : {M : Type 1} → statement M
 put-record-spec =
     tie.close
     (tie.spec
-    encode-requires
-    slice-aggregate-put
+    (λ c κs. search needs)
+    (λ c. search needs)
     put-requires
     put-numbers-requires
     put-pixels-requires
-    same-length
+    (λ c. search needs)
     returns)

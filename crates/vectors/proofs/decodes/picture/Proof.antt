@@ -7,11 +7,5 @@ use Rattle.vectors.proofs.decodes.picture.Tie as tie
 mul-result : tie.Need-mul-result
 mul-result c = record { fits = product-fits (search needs) (search needs) }
 
-returns : tie.Need-returns
-returns c = search needs
-
-returns-2 : tie.Need-returns-2
-returns-2 c = search needs
-
 pub picture-spec : {M : Type 1} → statement M
-picture-spec = tie.close (tie.spec mul-result returns returns-2)
+picture-spec = tie.close (tie.spec mul-result (λ c. search needs) (λ c. search needs))

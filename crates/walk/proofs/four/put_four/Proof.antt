@@ -8,41 +8,14 @@ use Rattle.walk.proofs.Pasting.{stored-four}
 use Rattle.walk.proofs.four.put_four.Statement.{statement}
 use Rattle.walk.proofs.four.put_four.Tie as tie
 
-red-requires : tie.Need-red-requires
-red-requires c κs = search needs
-
-slice-write-out : tie.Need-slice-write-out
-slice-write-out c = search needs
-
-green-requires : tie.Need-green-requires
-green-requires c κs = search needs
-
-add-out : tie.Need-add-out
-add-out c = search needs
-
 slice-write-out-2 : tie.Need-slice-write-out-2
 slice-write-out-2 c = simp length-set (omega arith)
-
-blue-requires : tie.Need-blue-requires
-blue-requires c κs = search needs
-
-add-out-2 : tie.Need-add-out-2
-add-out-2 c = search needs
 
 slice-write-out-3 : tie.Need-slice-write-out-3
 slice-write-out-3 c = simp length-set (omega arith)
 
-alpha-requires : tie.Need-alpha-requires
-alpha-requires c κs = search needs
-
-add-out-3 : tie.Need-add-out-3
-add-out-3 c = search needs
-
 slice-write-out-4 : tie.Need-slice-write-out-4
 slice-write-out-4 c = simp length-set (omega arith)
-
-same-length : tie.Need-same-length
-same-length c = search needs
 
 returns : tie.Need-returns
 unfolding unpacked
@@ -55,16 +28,16 @@ pub put-four-spec : {M : Type 1} → statement M
 put-four-spec =
     tie.close
     (tie.spec
-    red-requires
-    slice-write-out
-    green-requires
-    add-out
+    (λ c κs. search needs)
+    (λ c. search needs)
+    (λ c κs. search needs)
+    (λ c. search needs)
     slice-write-out-2
-    blue-requires
-    add-out-2
+    (λ c κs. search needs)
+    (λ c. search needs)
     slice-write-out-3
-    alpha-requires
-    add-out-3
+    (λ c κs. search needs)
+    (λ c. search needs)
     slice-write-out-4
-    same-length
+    (λ c. search needs)
     returns)

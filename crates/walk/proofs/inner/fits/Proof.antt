@@ -13,9 +13,6 @@ use Rattle.walk.specs.Walking.{fits}
 use Rattle.walk.proofs.inner.fits.Statement.{statement}
 use Rattle.walk.proofs.inner.fits.Tie as tie
 
-n-pixels-requires : tie.Need-n-pixels-requires
-n-pixels-requires c κs = search needs
-
 returns : tie.Need-returns
 unfolding fits
 returns c =
@@ -41,21 +38,12 @@ returns-4 c =
     let h = a .header in
     simp (le-leb 1 (pixelCount h) (omega (arith, c .before .before .before .before .n-pixels .ensures)), le-leb (pixelCount h) 400000000 (omega (arith, c .before .before .before .before .n-pixels .ensures)), le-leb (a .at) (a .message) (c .before .if3 .left), lt-leb (a .pixel) (pixelCount h) (omega (arith, c .before .before .before .before .n-pixels .ensures)))
 
-add-if5 : tie.Need-add-if5
-add-if5 c = search needs
-
 returns-5 : tie.Need-returns-5
 unfolding fits
 returns-5 c =
     let a = c .before .before .before .before .before .before .args in
     let h = a .header in
     simp (le-leb 1 (pixelCount h) (omega (arith, c .before .before .before .before .before .n-pixels .ensures)), le-leb (pixelCount h) 400000000 (omega (arith, c .before .before .before .before .before .n-pixels .ensures)), le-leb (a .at) (a .message) (c .before .before .if3 .left), le-leb (a .pixel) (pixelCount h) (omega (arith, c .before .before .before .before .before .n-pixels .ensures)), lt-leb (a .steps) (pixelCount h + 1) (omega (arith, c .before .before .before .before .before .n-pixels .ensures)))
-
-as-u8-requires : tie.Need-as-u8-requires
-as-u8-requires c κs = search needs
-
-cast-needed : tie.Need-cast-needed
-cast-needed c = search needs
 
 mul-needed : tie.Need-mul-needed
 mul-needed c = record { fits = lt-of-le-of-lt (mul-le-mul few small) (lit< tt) }
@@ -84,15 +72,15 @@ pub fits-spec : {M : Type 1} → statement M
 fits-spec =
     tie.close
     (tie.spec
-    n-pixels-requires
+    (λ c κs. search needs)
     returns
     returns-2
     returns-3
     returns-4
-    add-if5
+    (λ c. search needs)
     returns-5
-    as-u8-requires
-    cast-needed
+    (λ c κs. search needs)
+    (λ c. search needs)
     mul-needed
     returns-6
     returns-7)

@@ -8,32 +8,11 @@ use Rattle.walk.proofs.Pasting.{stored-three}
 use Rattle.walk.proofs.three.put_three.Statement.{statement}
 use Rattle.walk.proofs.three.put_three.Tie as tie
 
-red-requires : tie.Need-red-requires
-red-requires c κs = search needs
-
-slice-write-out : tie.Need-slice-write-out
-slice-write-out c = search needs
-
-green-requires : tie.Need-green-requires
-green-requires c κs = search needs
-
-add-out : tie.Need-add-out
-add-out c = search needs
-
 slice-write-out-2 : tie.Need-slice-write-out-2
 slice-write-out-2 c = simp length-set (omega arith)
 
-blue-requires : tie.Need-blue-requires
-blue-requires c κs = search needs
-
-add-out-2 : tie.Need-add-out-2
-add-out-2 c = search needs
-
 slice-write-out-3 : tie.Need-slice-write-out-3
 slice-write-out-3 c = simp length-set (omega arith)
-
-same-length : tie.Need-same-length
-same-length c = search needs
 
 returns : tie.Need-returns
 unfolding unpacked
@@ -46,13 +25,13 @@ pub put-three-spec : {M : Type 1} → statement M
 put-three-spec =
     tie.close
     (tie.spec
-    red-requires
-    slice-write-out
-    green-requires
-    add-out
+    (λ c κs. search needs)
+    (λ c. search needs)
+    (λ c κs. search needs)
+    (λ c. search needs)
     slice-write-out-2
-    blue-requires
-    add-out-2
+    (λ c κs. search needs)
+    (λ c. search needs)
     slice-write-out-3
-    same-length
+    (λ c. search needs)
     returns)

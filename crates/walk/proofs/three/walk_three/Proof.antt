@@ -45,18 +45,6 @@ some-brought c =
     let l = c .before .before .before .before .before .before .before .loop in
     run-some _ _ _ _ _ _ _ _ _ _ _ _ _ _ _ (l .inv) _ _ (finds _ _ _ _ _ _ _ _ _ _ _ _ _ _ _ (l .inv) _ _ (c .before .before .before .before .read .ensures) (c .before .before .times .given .1)) (c .before .before .before .before .before .before .loop-test .taken) (c .least2 .ensures)
 
-n-pixels-requires : tie.Need-n-pixels-requires Inv-loop μ-loop
-n-pixels-requires c κs = search needs
-
-sub-missing : tie.Need-sub-missing Inv-loop μ-loop
-sub-missing c = search needs
-
-packed-requires : tie.Need-packed-requires Inv-loop μ-loop
-packed-requires c κs = search needs
-
-least-requires : tie.Need-least-requires Inv-loop μ-loop
-least-requires c κs = search needs
-
 loop-holds : tie.Need-loop-holds Inv-loop μ-loop
 loop-holds c =
     let a = c .before .before .before .before .before .before .before .args in
@@ -79,73 +67,16 @@ loop-holds c =
           (omega arith) (omega arith);
     }
 
-sub-read : tie.Need-sub-read Inv-loop μ-loop
-sub-read c = search needs
-
-part-read-start : tie.Need-part-read-start Inv-loop μ-loop
-part-read-start c = search needs
-
-part-read-end : tie.Need-part-read-end Inv-loop μ-loop
-part-read-end c = search needs
-
-read-requires : tie.Need-read-requires Inv-loop μ-loop
-read-requires c κs = search needs
-
-enum-told : tie.Need-enum-told Inv-loop μ-loop
-enum-told c = search needs
-
-sub-t30 : tie.Need-sub-t30 Inv-loop μ-loop
-sub-t30 c = search needs
-
-add-t31 : tie.Need-add-t31 Inv-loop μ-loop
-add-t31 c = search needs
-
-unpack-requires : tie.Need-unpack-requires Inv-loop μ-loop
-unpack-requires c κs = search needs
-
-same-length : tie.Need-same-length Inv-loop μ-loop
-same-length c = search needs
-
 returns : tie.Need-returns Inv-loop μ-loop
 returns c =
     let l = c .before .before .before .before .before .before .loop in
     rw (c .unpack .ensures, ← c .before .before .before .before .before .before .before .before .packed .ensures)
     (sym (ends-cut _ _ _ _ _ _ _ _ _ _ _ _ _ _ _ (l .inv) (c .before .before .before .before .before .loop-test .taken) (finds _ _ _ _ _ _ _ _ _ _ _ _ _ _ _ (l .inv) _ _ (c .before .before .before .read .ensures) (c .before .enum-told .given .1)) (c .before .before .before .before .before .before .before .before .before .before .before .before .before .before .args .header) (of-header (c .before .before .before .before .before .before .before .before .before .before .before))))
 
-enum-known-slot : tie.Need-enum-known-slot Inv-loop μ-loop
-enum-known-slot c = search needs
-
-cast-i : tie.Need-cast-i Inv-loop μ-loop
-cast-i c = search needs
-
-mul-stored : tie.Need-mul-stored Inv-loop μ-loop
-mul-stored c = search needs
-
 array-copy-out-stored : tie.Need-array-copy-out-stored Inv-loop μ-loop
 array-copy-out-stored c =
     let l = c .before .before .before .before .before .before .loop in
     index-within _ _ _ _ _ _ _ _ _ _ _ _ _ _ _ (l .inv) _ (finds _ _ _ _ _ _ _ _ _ _ _ _ _ _ _ (l .inv) _ _ (c .before .before .before .read .ensures) (c .before .slot .given .1))
-
-packed-requires-2 : tie.Need-packed-requires-2 Inv-loop μ-loop
-packed-requires-2 c κs = search needs
-
-opaque-requires : tie.Need-opaque-requires Inv-loop μ-loop
-opaque-requires c κs = search needs
-
-mul-put-three : tie.Need-mul-put-three Inv-loop μ-loop
-mul-put-three c = search needs
-
-put-three-requires : tie.Need-put-three-requires Inv-loop μ-loop
-put-three-requires c κs = search needs
-
-add-at : tie.Need-add-at Inv-loop μ-loop
-add-at c = search needs
-
-add-done : tie.Need-add-done Inv-loop μ-loop
-add-done c = search needs
-
-loop-less : tie.Need-loop-less Inv-loop μ-loop
-loop-less c = search needs
 
 loop-again : tie.Need-loop-again Inv-loop μ-loop
 unfolding decoderKeeps
@@ -154,41 +85,11 @@ loop-again c =
     after-index _ _ _ _ _ _ _ _ _ _ _ _ _ _ _ (l .inv) (c .before .before .before .before .before .before .before .before .before .before .before .before .loop-test .taken) threeBytes three-bytes _ (finds _ _ _ _ _ _ _ _ _ _ _ _ _ _ _ (l .inv) _ _ (c .before .before .before .before .before .before .before .before .before .before .read .ensures) (c .before .before .before .before .before .before .before .before .slot .given .1)) _ _
     (c .before .before .before .before .opaque .ensures ∙ ap (λ (p : Pixel). withAlpha p 255) (c .before .before .before .before .before .packed2 .ensures)) _ (c .before .before .put-three .ensures)
 
-enum-known-times : tie.Need-enum-known-times Inv-loop μ-loop
-enum-known-times c = search needs
-
-cast-least : tie.Need-cast-least Inv-loop μ-loop
-cast-least c = search needs
-
-sub-least : tie.Need-sub-least Inv-loop μ-loop
-sub-least c = search needs
-
-least-requires-2 : tie.Need-least-requires-2 Inv-loop μ-loop
-least-requires-2 c κs = search needs
-
-opaque-requires-2 : tie.Need-opaque-requires-2 Inv-loop μ-loop
-opaque-requires-2 c κs = search needs
-
-mul-fill-three : tie.Need-mul-fill-three Inv-loop μ-loop
-mul-fill-three c = search needs
-
-fill-three-requires : tie.Need-fill-three-requires Inv-loop μ-loop
-fill-three-requires c κs = search needs
-
-add-at-2 : tie.Need-add-at-2 Inv-loop μ-loop
-add-at-2 c = search needs
-
-add-done-2 : tie.Need-add-done-2 Inv-loop μ-loop
-add-done-2 c = search needs
-
 sub-limit : tie.Need-sub-limit Inv-loop μ-loop
 sub-limit c = some-brought (c .before .before .before .before .before)
 
 add-limit : tie.Need-add-limit Inv-loop μ-loop
 add-limit c = record { fits = lt-of-le-of-lt (run-fits _ _ _ _ _ _ _ _ _ _ _ _ _ _ _ (c .before .before .before .before .before .before .before .before .before .before .before .before .loop .inv) _ _ (c .before .before .before .before .before .least2 .ensures)) (lit< tt) }
-
-least-requires-3 : tie.Need-least-requires-3 Inv-loop μ-loop
-least-requires-3 c κs = search needs
 
 loop-less-2 : tie.Need-loop-less-2 Inv-loop μ-loop
 loop-less-2 c = omega (arith, c .before .before .before .before .before .before .least2 .ensures, some-brought (c .before .before .before .before .before .before))
@@ -200,44 +101,17 @@ loop-again-2 c =
     after-run _ _ _ _ _ _ _ _ _ _ _ _ _ _ _ (l .inv) (c .before .before .before .before .before .before .before .before .before .before .before .before .loop-test .taken) threeBytes three-bytes _ _ (finds _ _ _ _ _ _ _ _ _ _ _ _ _ _ _ (l .inv) _ _ (c .before .before .before .before .before .before .before .before .before .before .read .ensures) (c .before .before .before .before .before .before .before .before .times .given .1)) (c .before .before .before .before .before .before .least2 .ensures) _
     (c .before .before .before .before .before .opaque2 .ensures) _ (c .before .before .before .fill-three .ensures) _ refl _ (c .least3 .ensures)
 
-enum-known-colour : tie.Need-enum-known-colour Inv-loop μ-loop
-enum-known-colour c = search needs
-
-size-requires : tie.Need-size-requires Inv-loop μ-loop
-size-requires c κs = search needs
-
 add-at-3 : tie.Need-add-at-3 Inv-loop μ-loop
 add-at-3 c =
     let l = c .before .before .before .before .before .before .before .loop in
     let within = colour-within _ _ _ _ _ _ _ _ _ _ _ _ _ _ _ (l .inv) (c .before .before .colour .given .0 .0) (finds _ _ _ _ _ _ _ _ _ _ _ _ _ _ _ (l .inv) _ _ (c .before .before .before .before .read .ensures) (c .before .before .colour .given .1)) in
     record { fits = omega (arith, c .size .ensures, within) }
 
-recolour-requires : tie.Need-recolour-requires Inv-loop μ-loop
-recolour-requires c κs = search needs
-
-slot-requires : tie.Need-slot-requires Inv-loop μ-loop
-slot-requires c κs = search needs
-
-unpack-requires-2 : tie.Need-unpack-requires-2 Inv-loop μ-loop
-unpack-requires-2 c κs = search needs
-
 mul-slots : tie.Need-mul-slots Inv-loop μ-loop
 mul-slots c = record { fits = omega (arith, c .before .slot2 .ensures, slot-small (unpacked (c .before .before .recolour .result))) }
 
 array-set-from-slots : tie.Need-array-set-from-slots Inv-loop μ-loop
 array-set-from-slots c = rw (c .before .slot2 .ensures) (slot-small _)
-
-mul-put-three-2 : tie.Need-mul-put-three-2 Inv-loop μ-loop
-mul-put-three-2 c = search needs
-
-put-three-requires-2 : tie.Need-put-three-requires-2 Inv-loop μ-loop
-put-three-requires-2 c κs = search needs
-
-add-done-3 : tie.Need-add-done-3 Inv-loop μ-loop
-add-done-3 c = search needs
-
-loop-less-3 : tie.Need-loop-less-3 Inv-loop μ-loop
-loop-less-3 c = search needs
 
 loop-again-3 : tie.Need-loop-again-3 Inv-loop μ-loop
 unfolding decoderKeeps
@@ -247,18 +121,6 @@ loop-again-3 c =
     rw (c .before .before .before .before .before .before .before .size .ensures, c .before .before .before .before .before .slot2 .ensures, c .before .before .before .before .unpack2 .ensures)
     (after-colour _ _ _ _ _ _ _ _ _ _ _ _ _ _ _ (l .inv) (c .before .before .before .before .before .before .before .before .before .before .before .before .before .loop-test .taken) threeBytes three-bytes colour (finds _ _ _ _ _ _ _ _ _ _ _ _ _ _ _ (l .inv) _ _ (c .before .before .before .before .before .before .before .before .before .before .before .read .ensures) (c .before .before .before .before .before .before .before .before .before .colour .given .1)) _
     (c .before .before .before .before .before .before .recolour .ensures) _ (c .before .before .put-three2 .ensures))
-
-sub-t23 : tie.Need-sub-t23 Inv-loop μ-loop
-sub-t23 c = search needs
-
-add-t55 : tie.Need-add-t55 Inv-loop μ-loop
-add-t55 c = search needs
-
-unpack-requires-3 : tie.Need-unpack-requires-3 Inv-loop μ-loop
-unpack-requires-3 c κs = search needs
-
-same-length-2 : tie.Need-same-length-2 Inv-loop μ-loop
-same-length-2 c = search needs
 
 returns-2 : tie.Need-returns-2 Inv-loop μ-loop
 returns-2 c =
@@ -272,62 +134,62 @@ walk-three-spec =
     (tie.spec
     Inv-loop
     μ-loop
-    n-pixels-requires
-    sub-missing
-    packed-requires
-    least-requires
+    (λ c κs. search needs)
+    (λ c. search needs)
+    (λ c κs. search needs)
+    (λ c κs. search needs)
     loop-holds
-    sub-read
-    part-read-start
-    part-read-end
-    read-requires
-    enum-told
-    sub-t30
-    add-t31
-    unpack-requires
-    same-length
+    (λ c. search needs)
+    (λ c. search needs)
+    (λ c. search needs)
+    (λ c κs. search needs)
+    (λ c. search needs)
+    (λ c. search needs)
+    (λ c. search needs)
+    (λ c κs. search needs)
+    (λ c. search needs)
     returns
-    enum-known-slot
-    cast-i
-    mul-stored
+    (λ c. search needs)
+    (λ c. search needs)
+    (λ c. search needs)
     array-copy-out-stored
-    packed-requires-2
-    opaque-requires
-    mul-put-three
-    put-three-requires
-    add-at
-    add-done
-    loop-less
+    (λ c κs. search needs)
+    (λ c κs. search needs)
+    (λ c. search needs)
+    (λ c κs. search needs)
+    (λ c. search needs)
+    (λ c. search needs)
+    (λ c. search needs)
     loop-again
-    enum-known-times
-    cast-least
-    sub-least
-    least-requires-2
-    opaque-requires-2
-    mul-fill-three
-    fill-three-requires
-    add-at-2
-    add-done-2
+    (λ c. search needs)
+    (λ c. search needs)
+    (λ c. search needs)
+    (λ c κs. search needs)
+    (λ c κs. search needs)
+    (λ c. search needs)
+    (λ c κs. search needs)
+    (λ c. search needs)
+    (λ c. search needs)
     sub-limit
     add-limit
-    least-requires-3
+    (λ c κs. search needs)
     loop-less-2
     loop-again-2
-    enum-known-colour
-    size-requires
+    (λ c. search needs)
+    (λ c κs. search needs)
     add-at-3
-    recolour-requires
-    slot-requires
-    unpack-requires-2
+    (λ c κs. search needs)
+    (λ c κs. search needs)
+    (λ c κs. search needs)
     mul-slots
     array-set-from-slots
-    mul-put-three-2
-    put-three-requires-2
-    add-done-3
-    loop-less-3
+    (λ c. search needs)
+    (λ c κs. search needs)
+    (λ c. search needs)
+    (λ c. search needs)
     loop-again-3
-    sub-t23
-    add-t55
-    unpack-requires-3
-    same-length-2
+    (λ c. search needs)
+    (λ c. search needs)
+    (λ c κs. search needs)
+    (λ c. search needs)
     returns-2)
