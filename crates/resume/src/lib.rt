@@ -14,11 +14,11 @@ use pixel::consts::QOI_HEADER_SIZE;
 use pixel::error::Error;
 use pixel::types::Channels;
 
-mod form;
-mod opening;
-mod reader;
-mod running;
-mod writer;
+mod read_record;
+mod run;
+mod start;
+mod well_formed;
+mod write_record;
 
 pub type Slots = [Pixel; 64];
 
@@ -70,7 +70,7 @@ impl Decoder {
     pub fn idle() -> Self
         ensures { λ r. ⌜ stateOf r ≡ idleState ⌝ }
     {
-        opening::fresh(Header::default(), 3)
+        start::fresh(Header::default(), 3)
     }
 
     // The state before the first chunk of a message.
@@ -78,9 +78,9 @@ impl Decoder {
         ensures { λ r. ⌜ (r .answer ≡ startAnswer (starting (now (message .entry)) wanted)) × (stateOf (r .decoder) ≡ stateAfter (stateOf self) (starting (now (message .entry)) wanted)) ⌝ }
     {
         match Header::decode(message) {
-            HeaderRead::Refused(e) => opening::refused(self, e),
+            HeaderRead::Refused(e) => start::refused(self, e),
             HeaderRead::Ok(header) => {
-                opening::with_wanted(self, header, Channels::try_from(wanted))
+                start::after_wanted(self, header, Channels::try_from(wanted))
             }
         }
     }
@@ -90,8 +90,8 @@ impl Decoder {
         ensures { λ r. ⌜ (r .answer ≡ startAnswer (readRecord (now («record» .entry)))) × (stateOf (r .decoder) ≡ stateAfter (stateOf self) (readRecord (now («record» .entry)))) ⌝ }
     {
         match Header::decode(record) {
-            HeaderRead::Refused(e) => opening::refused(self, e),
-            HeaderRead::Ok(header) => reader::read_wanted(self, header, &record[14..]),
+            HeaderRead::Refused(e) => start::refused(self, e),
+            HeaderRead::Ok(header) => read_record::read_wanted(self, header, &record[14..]),
         }
     }
 
@@ -99,21 +99,21 @@ impl Decoder {
     pub fn step(self, message: &[u8], out: &mut [u8]) -> Stepped
         ensures { λ r. ⌜ ranOf r (now (out .exit)) ≡ runOn going (stateOf self) (now (out .entry)) (step (stateOf self) (now (message .entry)) (length (now (out .entry)))) ⌝ }
     {
-        running::run(self, message, out, 1)
+        run::run(self, message, out, 1)
     }
 
     // At most `steps` steps: what a worker does between two checkpoints.
     pub fn run(self, message: &[u8], out: &mut [u8], steps: u64) -> Stepped
         ensures { λ r. ⌜ ranOf r (now (out .exit)) ≡ running (now (message .entry)) steps (stateOf self) (now (out .entry)) ⌝ }
     {
-        running::run(self, message, out, steps)
+        run::run(self, message, out, steps)
     }
 
     // Writes the record of the state; bytes after it stay.
     pub fn write_record(self, out: &mut [u8]) -> Written
         ensures { λ r. ⌜ (r ≡ writtenAnswer (recording (stateOf self) (length (now (out .entry))))) × (now (out .exit) ≡ recordedOver (stateOf self) (now (out .entry))) ⌝ }
     {
-        if !form::well_formed(self) {
+        if !well_formed::well_formed(self) {
             return Written::Refused(Error::BadState);
         }
         let required = self.record_len();
@@ -123,7 +123,7 @@ impl Decoder {
                 required,
             });
         }
-        writer::put_record(out, self);
+        write_record::put_record(out, self);
         Written::Done { size: required }
     }
 

@@ -12,7 +12,7 @@ returns c = rw (← c .before .before .before .before .decode .ensures, c .befor
 returns-2 : tie.Need-returns-2
 unfolding starting startHeader
 returns-2 c =
-    rw (← c .before .before .before .before .before .decode .ensures, c .before .before .before .header .given .1, ← c .before .try-from .ensures) (c .with-wanted .ensures)
+    rw (← c .before .before .before .before .before .decode .ensures, c .before .before .before .header .given .1, ← c .before .try-from .ensures) (c .after-wanted .ensures)
 
 pub start-spec : {M : Type 1} → statement M
 start-spec =

@@ -1,0 +1,41 @@
+-- `resume::read_record::read_byte_position` meets its contract: the number's answer leads to the case of the definition.
+-- Assumes nothing.
+use mathlib.Core.Path.{sym, _∙_}
+use native.Mathlib.Omega.{arith}
+use borrow.Author.Needs.{needs}
+use Rattle.number.proofs.Laws.{read-bounds}
+use Rattle.rules.specs.Record.{withNumber}
+use Rattle.rules.proofs.PastingLaws.{whole-tail}
+use Rattle.resume.proofs.read_record.read_byte_position.Statement.{statement}
+use Rattle.resume.proofs.read_record.read_byte_position.Tie as tie
+
+sub-read-pixel-position : tie.Need-sub-read-pixel-position
+sub-read-pixel-position c =
+    omega (arith, read-bounds _ _ _ (λ i h. c .before .before .before .before .shared-slice-known .given i .fits) (sym (c .before .before .before .read .ensures) ∙ c .before .value .given .1))
+
+part-read-pixel-position-start : tie.Need-part-read-pixel-position-start
+part-read-pixel-position-start c = sub-read-pixel-position c
+
+returns : tie.Need-returns
+unfolding withNumber
+returns c = rw (← c .before .before .before .before .read .ensures, c .before .before .e .given .1) (c .refused .ensures)
+
+returns-2 : tie.Need-returns-2
+unfolding withNumber
+returns-2 c =
+    rw (← c .before .before .before .before .before .read .ensures, c .before .before .before .value .given .1, ← whole-tail (c .before .before .before .before .before .before .before .args .bytes .now) _) (c .read-pixel-position .ensures)
+
+pub read-byte-position-spec : {M : Type 1} → statement M
+read-byte-position-spec =
+    tie.close
+    (tie.spec
+    (λ c κs. search needs)
+    (λ c. search needs)
+    (λ c κs. search needs)
+    (λ c. search needs)
+    sub-read-pixel-position
+    part-read-pixel-position-start
+    (λ c. search needs)
+    (λ c κs. search needs)
+    returns
+    returns-2)

@@ -1,0 +1,42 @@
+-- `resume::read_record::read_wanted` meets its contract: the number's answer leads to the case of the definition.
+-- Assumes nothing.
+use mathlib.Core.Path.{sym, _∙_}
+use native.Mathlib.Omega.{arith}
+use borrow.Author.Needs.{needs}
+use Rattle.number.proofs.Laws.{read-bounds}
+use Rattle.rules.specs.Record.{readWanted, withNumber}
+use Rattle.rules.proofs.PastingLaws.{whole-tail}
+use Rattle.resume.proofs.read_record.read_wanted.Statement.{statement}
+use Rattle.resume.proofs.read_record.read_wanted.Tie as tie
+
+sub-read-positions : tie.Need-sub-read-positions
+sub-read-positions c =
+    omega (arith, read-bounds _ _ _ (λ i h. c .before .before .before .before .before .shared-slice-known .given i .fits) (sym (c .before .before .before .before .read .ensures) ∙ c .before .before .value .given .1))
+
+part-read-positions-start : tie.Need-part-read-positions-start
+part-read-positions-start c = sub-read-positions c
+
+returns : tie.Need-returns
+unfolding readWanted withNumber
+returns c = rw (← c .before .before .before .before .read .ensures, c .before .before .e .given .1) (c .refused .ensures)
+
+returns-2 : tie.Need-returns-2
+unfolding readWanted withNumber
+returns-2 c =
+    rw (← c .before .before .before .before .before .before .read .ensures, c .before .before .before .before .value .given .1, ← c .before .before .try-from .ensures, ← whole-tail (c .before .before .before .before .before .before .before .before .args .bytes .now) _) (c .read-positions .ensures)
+
+pub read-wanted-spec : {M : Type 1} → statement M
+read-wanted-spec =
+    tie.close
+    (tie.spec
+    (λ c κs. search needs)
+    (λ c. search needs)
+    (λ c κs. search needs)
+    (λ c. search needs)
+    (λ c κs. search needs)
+    sub-read-positions
+    part-read-positions-start
+    (λ c. search needs)
+    (λ c κs. search needs)
+    returns
+    returns-2)

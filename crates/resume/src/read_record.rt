@@ -1,0 +1,147 @@
+// Reading a record, left to right: each part answers its own refusals and hands the rest to the next.
+ghost use mathlib.Core.Path.{_≡_};
+ghost use Prim.Native.Nat.{_+_, _≤_};
+ghost use lib.ListN.{length, drop};
+ghost use Rattle.header.specs.declared.HeaderRead.the-variants as headerRead;
+ghost use Rattle.rules.specs.Encode.{pixelFrom, pixelsFrom};
+ghost use Rattle.rules.specs.Record.{readWanted, readPositions, readSlots, readEnd};
+ghost use Rattle.resume.specs.Inner.{Answers, fromAt, fromPixel};
+ghost use Rattle.resume.specs.State.{stateOf};
+use crate::Decoder;
+use crate::Slots;
+use crate::StartAnswer;
+use crate::Started;
+use crate::start;
+use crate::well_formed;
+use header::Header;
+use number::NumberRead;
+use pixel::Pixel;
+use pixel::error::Error;
+use pixel::types::Channels;
+use pixel::types::ChannelsRead;
+
+// The channels wanted.
+pub fn read_wanted(old: Decoder, header: Header, bytes: &[u8]) -> Started
+    ensures { λ r. ⌜ Answers (readWanted (headerRead.Ok header) (now (bytes .entry))) old r ⌝ }
+{
+    match number::read(bytes) {
+        NumberRead::Refused(e) => start::refused(old, e),
+        NumberRead::Number { value, used } => read_positions(
+            old,
+            header,
+            Channels::try_from(value),
+            &bytes[used..],
+        ),
+    }
+}
+
+// 2 for wanted other than 3 or 4.
+fn read_positions(old: Decoder, header: Header, wanted: ChannelsRead, bytes: &[u8]) -> Started
+    ensures { λ r. ⌜ Answers (readPositions header wanted (now (bytes .entry))) old r ⌝ }
+{
+    match wanted {
+        ChannelsRead::Refused(e) => start::refused(old, e),
+        ChannelsRead::Ok(channels) => read_byte_position(
+            old,
+            header,
+            channels.as_u8() as u64,
+            bytes,
+        ),
+    }
+}
+
+// The byte position.
+fn read_byte_position(old: Decoder, header: Header, wanted: u64, bytes: &[u8]) -> Started
+    ensures { λ r. ⌜ Answers (fromAt header wanted (now (bytes .entry))) old r ⌝ }
+{
+    match number::read(bytes) {
+        NumberRead::Refused(e) => start::refused(old, e),
+        NumberRead::Number { value, used } => {
+            read_pixel_position(old, header, wanted, value as usize, &bytes[used..])
+        }
+    }
+}
+
+// The pixel position.
+fn read_pixel_position(
+    old: Decoder,
+    header: Header,
+    wanted: u64,
+    at: usize,
+    bytes: &[u8],
+) -> Started
+    ensures { λ r. ⌜ Answers (fromPixel header wanted at (now (bytes .entry))) old r ⌝ }
+{
+    match number::read(bytes) {
+        NumberRead::Refused(e) => start::refused(old, e),
+        NumberRead::Number { value, used } => {
+            read_slots(old, header, wanted, at, value as usize, &bytes[used..])
+        }
+    }
+}
+
+// The current pixel and the slots.
+fn read_slots(
+    old: Decoder,
+    header: Header,
+    wanted: u64,
+    at: usize,
+    pixel: usize,
+    bytes: &[u8],
+) -> Started
+    ensures { λ r. ⌜ Answers (readSlots header wanted at pixel (now (bytes .entry))) old r ⌝ }
+{
+    if bytes.len() < 260 {
+        return start::refused(old, Error::UnexpectedBufferEnd);
+    }
+    let current = pixel_at(bytes, 0);
+    let slots = slots_from(&bytes[4..]);
+    let decoder = Decoder {
+        header,
+        wanted,
+        at,
+        pixel,
+        current,
+        slots,
+    };
+    accept(old, decoder, bytes.len() - 260)
+}
+
+// The faults of state, then bytes after the last slot.
+fn accept(old: Decoder, decoder: Decoder, left: usize) -> Started
+    ensures { λ r. ⌜ Answers (readEnd (stateOf decoder) left) old r ⌝ }
+{
+    if !well_formed::well_formed(decoder) {
+        return start::refused(old, Error::BadState);
+    }
+    if left != 0 {
+        return start::refused(old, Error::BadState);
+    }
+    Started {
+        answer: StartAnswer::Ok,
+        decoder,
+    }
+}
+
+// 64 pixels of four bytes each.
+fn slots_from(bytes: &[u8]) -> Slots
+    requires { ⌜ 256 ≤ length (now bytes) ⌝ }
+    ensures { λ r. ⌜ r ≡ pixelsFrom 64 4 (now (bytes .entry)) ⌝ }
+{
+    let clear = Pixel::clear();
+    let mut slots = [clear; 64];
+    let mut i: usize = 0;
+    while i < 64 {
+        slots[i] = pixel_at(bytes, i * 4);
+        i += 1;
+    }
+    slots
+}
+
+// The pixel of the four bytes at a place.
+fn pixel_at(bytes: &[u8], at: usize) -> Pixel
+    requires { ⌜ at + 4 ≤ length (now bytes) ⌝ }
+    ensures { λ r. ⌜ r ≡ pixelFrom 4 (drop at (now (bytes .entry))) ⌝ }
+{
+    Pixel::new(bytes[at], bytes[at + 1], bytes[at + 2], bytes[at + 3])
+}

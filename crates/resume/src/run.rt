@@ -1,0 +1,141 @@
+// A run of steps: the tests of state, output and message, the walk over the chunks, and the marker.
+ghost use mathlib.Core.Path.{_≡_};
+ghost use Prim.Native.Nat.{_≤_, min};
+ghost use lib.ListN.{length};
+ghost use Rattle.pixel.specs.Types.{channelsNumber};
+ghost use Rattle.rules.specs.Reading.{closing};
+ghost use Rattle.rules.specs.Step.{running};
+ghost use Rattle.resume.specs.Inner.{Ready, WantedFits};
+ghost use Rattle.resume.specs.Run.{ranOf, endAnswer};
+ghost use Rattle.resume.specs.State.{stateOf};
+use crate::Decoder;
+use crate::StepAnswer;
+use crate::Stepped;
+use crate::well_formed;
+use chunk::Ending;
+use pixel::error::Error;
+use pixel::types::Channels;
+use walk::Place;
+
+// At most `steps` steps: 9, 7, 1 for a byte position past the message, then the chunks.
+pub fn run(decoder: Decoder, message: &[u8], out: &mut [u8], steps: u64) -> Stepped
+    ensures { λ r. ⌜ ranOf r (now (out .exit)) ≡ running (now (message .entry)) steps (stateOf decoder) (now (out .entry)) ⌝ }
+{
+    if steps == 0 {
+        return Stepped {
+            answer: StepAnswer::More,
+            decoder,
+        };
+    }
+    if !well_formed::well_formed(decoder) {
+        return Stepped {
+            answer: StepAnswer::Refused(Error::BadState),
+            decoder,
+        };
+    }
+    let header = decoder.header;
+    let required = header.n_pixels() * (decoder.wanted as usize);
+    if out.len() < required {
+        return Stepped {
+            answer: StepAnswer::Refused(Error::OutputBufferTooSmall {
+                size: out.len(),
+                required,
+            }),
+            decoder,
+        };
+    }
+    if message.len() < decoder.at {
+        return Stepped {
+            answer: StepAnswer::Refused(Error::UnexpectedBufferEnd),
+            decoder,
+        };
+    }
+    go_on(decoder, message, out, steps as usize, required)
+}
+
+// The chunks, into the part of the output that starts at the pixel position, so that what stands before it cannot be harmed.
+fn go_on(decoder: Decoder, message: &[u8], out: &mut [u8], steps: usize, required: usize) -> Stepped
+    requires { ⌜ Ready (stateOf decoder) (now message) (now out) required ⌝ }
+    ensures { λ r. ⌜ ranOf r (now (out .exit)) ≡ running (now (message .entry)) steps (stateOf decoder) (now (out .entry)) ⌝ }
+{
+    let header = decoder.header;
+    let wanted = decoder.wanted;
+    let pixel = decoder.pixel;
+    let current = decoder.current;
+    let slots = decoder.slots;
+    let place = Place {
+        at: decoder.at,
+        pixel,
+        current,
+        slots,
+    };
+    let most = header.n_pixels() - pixel + 1;
+    let channels = channels_of(wanted);
+    let from = pixel * (wanted as usize);
+    let walked = walk::walk(
+        message,
+        header,
+        channels,
+        place,
+        &mut out[from..],
+        least(steps, most),
+    );
+    let end = walked.place;
+    let last = end.current;
+    let held = end.slots;
+    let next = Decoder {
+        header,
+        wanted,
+        at: end.at,
+        pixel: end.pixel,
+        current: last,
+        slots: held,
+    };
+    if walked.cut {
+        return Stepped {
+            answer: StepAnswer::Refused(Error::UnexpectedBufferEnd),
+            decoder: next,
+        };
+    }
+    if walked.left == 0 {
+        return Stepped {
+            answer: StepAnswer::More,
+            decoder: next,
+        };
+    }
+    Stepped {
+        answer: close(message, end.at, required),
+        decoder: next,
+    }
+}
+
+// The marker test.
+fn close(message: &[u8], at: usize, size: usize) -> StepAnswer
+    requires { ⌜ at ≤ length (now message) ⌝ }
+    ensures { λ r. ⌜ r ≡ endAnswer (closing size (now (message .entry)) at) ⌝ }
+{
+    match chunk::read_end(&message[at..]) {
+        Ending::Cut => StepAnswer::Refused(Error::UnexpectedBufferEnd),
+        Ending::Wrong => StepAnswer::Refused(Error::InvalidPadding),
+        Ending::Marker => StepAnswer::Done { size, used: at + 8 },
+    }
+}
+
+// The channels that a well-formed state wants.
+fn channels_of(wanted: u64) -> Channels
+    requires { ⌜ WantedFits wanted ⌝ }
+    ensures { λ r. ⌜ channelsNumber r ≡ wanted ⌝ }
+{
+    if wanted == 3 {
+        Channels::Rgb
+    } else {
+        Channels::Rgba
+    }
+}
+
+// The lesser of two numbers.
+fn least(a: usize, b: usize) -> usize
+    ensures { λ r. ⌜ r ≡ min a b ⌝ }
+{
+    if a < b { a } else { b }
+}
