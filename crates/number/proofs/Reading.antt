@@ -12,7 +12,7 @@ use Rattle.pixel.specs.Bytes.{AllBytes}
 use Rattle.pixel.specs.declared.error.Error.the-variants.{UnexpectedBufferEnd, BadState}
 use Rattle.number.specs.declared.NumberRead.{NumberRead}
 use Rattle.number.specs.declared.NumberRead.the-variants as read
-use Rattle.number.specs.Inner.{GroupFits}
+use Rattle.number.specs.Asked.{GroupFits}
 use Rattle.number.specs.Seven.{readNumber, readMore, groupBelow}
 use Rattle.number.proofs.Laws.{Within, more-within}
 

@@ -1,3 +1,3 @@
 -- The definitions of crate `number`.
-pub mod Inner
+pub mod Asked
 pub mod Seven

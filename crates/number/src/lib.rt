@@ -3,7 +3,7 @@ ghost use mathlib.Core.Path.{_≡_};
 ghost use Prim.Native.Nat.{_≤_};
 ghost use lib.ListN.{length};
 ghost use Rattle.number.specs.Seven.{sevenBits, readNumber, readMore, writtenNumber, writingNumber, groupBelow};
-ghost use Rattle.number.specs.Inner.{GroupFits};
+ghost use Rattle.number.specs.Asked.{GroupFits};
 use pixel::error::Error;
 
 pub enum NumberRead {

@@ -1,4 +1,4 @@
 -- The definitions of crate `resume`.
-pub mod Inner
+pub mod Asked
 pub mod Run
 pub mod State

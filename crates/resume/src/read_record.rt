@@ -5,7 +5,7 @@ ghost use lib.ListN.{length, drop};
 ghost use Rattle.header.specs.declared.HeaderRead.the-variants as headerRead;
 ghost use Rattle.rules.specs.Encode.{pixelFrom, pixelsFrom};
 ghost use Rattle.rules.specs.Record.{readWanted, readPositions, readSlots, readEnd};
-ghost use Rattle.resume.specs.Inner.{Answers, fromAt, fromPixel};
+ghost use Rattle.resume.specs.Asked.{Answers, fromAt, fromPixel};
 ghost use Rattle.resume.specs.State.{stateOf};
 use crate::Decoder;
 use crate::Slots;

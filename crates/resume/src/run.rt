@@ -5,7 +5,7 @@ ghost use lib.ListN.{length};
 ghost use Rattle.pixel.specs.Types.{channelsNumber};
 ghost use Rattle.rules.specs.Reading.{closing};
 ghost use Rattle.rules.specs.Step.{running};
-ghost use Rattle.resume.specs.Inner.{Ready, WantedFits};
+ghost use Rattle.resume.specs.Asked.{Ready, WantedFits};
 ghost use Rattle.resume.specs.Run.{ranOf, endAnswer};
 ghost use Rattle.resume.specs.State.{stateOf};
 use crate::Decoder;

@@ -15,7 +15,7 @@ use Rattle.header.specs.Header.{dimensionsFit, pixelCount}
 use Rattle.header.proofs.Laws.{both}
 use Rattle.rules.specs.Reading.{Place}
 use Rattle.walk.specs.Walking.{fits}
-use Rattle.walk.specs.Inner.{Fits}
+use Rattle.walk.specs.Asked.{Fits}
 
 -- input that passes lies within what the header says
 pub fitted :

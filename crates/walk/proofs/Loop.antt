@@ -27,7 +27,7 @@ use Rattle.chunk.specs.declared.Found.{Found}
 use Rattle.chunk.specs.declared.Found.the-variants as found
 use Rattle.chunk.specs.Found.{foundOf, chunkOf}
 use Rattle.walk.specs.Walking.{walking, standing, stopped}
-use Rattle.walk.specs.Inner.{threeBytes, fourBytes}
+use Rattle.walk.specs.Asked.{threeBytes, fourBytes}
 
 -- an array's length is that of what its elements are mapped to
 pub unmapped : {X Y : Type 0} (f : X → Y) (l : List X) (n : ℕ) → length (map f l) ≡ n → length l ≡ n

@@ -1,3 +1,3 @@
 -- The definitions of crate `walk`.
 pub mod Walking
-pub mod Inner
+pub mod Asked

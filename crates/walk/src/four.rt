@@ -5,10 +5,10 @@ ghost use lib.ListN.{length};
 ghost use Rattle.pixel.specs.Packed.{unpacked};
 ghost use Rattle.rules.specs.Reading.{repeated, pasted};
 ghost use Rattle.walk.specs.Walking.{placeOf, walkOf, walking};
-ghost use Rattle.walk.specs.Inner.{Fits, fourBytes};
+ghost use Rattle.walk.specs.Asked.{Fits, fourBytes};
 use crate::Place;
 use crate::Walked;
-use crate::inner;
+use crate::shared;
 use chunk::Found;
 use header::Header;
 use pixel::packed;
@@ -35,7 +35,7 @@ pub fn walk_four(
     let mut at = place.at;
     let mut done: usize = 0;
     let mut limit = steps;
-    let mut bound = inner::least(limit, missing);
+    let mut bound = shared::least(limit, missing);
     while done < bound {
         match chunk::read(source, &message[at..]) {
             Found::Cut => {
@@ -60,12 +60,12 @@ pub fn walk_four(
                 done += 1;
             }
             Found::Run(times) => {
-                let n = inner::least(times as usize, missing - done);
+                let n = shared::least(times as usize, missing - done);
                 fill_four(out, done * 4, n, current);
                 at += 1;
                 done += n;
                 limit += n - 1;
-                bound = inner::least(limit, missing);
+                bound = shared::least(limit, missing);
             }
             Found::Colour(colour) => {
                 at += chunk::size(colour);

@@ -7,7 +7,7 @@ use pixel::Pixel;
 use pixel::types::Channels;
 
 mod four;
-mod inner;
+mod shared;
 mod three;
 
 // Where a decode stands between two chunks.
@@ -36,7 +36,7 @@ pub fn walk(
 ) -> Walked
     ensures { λ r. ⌜ walkOf r (now (out .exit)) ≡ walkingInto header (channelsNumber wanted) (now (message .entry)) steps (placeOf place) (now (out .entry)) ⌝ }
 {
-    if !inner::fits(
+    if !shared::fits(
         message.len(),
         header,
         wanted,

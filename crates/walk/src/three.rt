@@ -5,10 +5,10 @@ ghost use lib.ListN.{length};
 ghost use Rattle.pixel.specs.Packed.{unpacked};
 ghost use Rattle.rules.specs.Reading.{repeated, pasted};
 ghost use Rattle.walk.specs.Walking.{placeOf, walkOf, walking};
-ghost use Rattle.walk.specs.Inner.{Fits, threeBytes};
+ghost use Rattle.walk.specs.Asked.{Fits, threeBytes};
 use crate::Place;
 use crate::Walked;
-use crate::inner;
+use crate::shared;
 use chunk::Found;
 use header::Header;
 use pixel::packed;
@@ -34,7 +34,7 @@ pub fn walk_three(
     let mut at = place.at;
     let mut done: usize = 0;
     let mut limit = steps;
-    let mut bound = inner::least(limit, missing);
+    let mut bound = shared::least(limit, missing);
     while done < bound {
         match chunk::read(source, &message[at..]) {
             Found::Cut => {
@@ -58,13 +58,13 @@ pub fn walk_three(
                 done += 1;
             }
             Found::Run(times) => {
-                let n = inner::least(times as usize, missing - done);
+                let n = shared::least(times as usize, missing - done);
                 current = packed::opaque(current);
                 fill_three(out, done * 3, n, current);
                 at += 1;
                 done += n;
                 limit += n - 1;
-                bound = inner::least(limit, missing);
+                bound = shared::least(limit, missing);
             }
             Found::Colour(colour) => {
                 at += chunk::size(colour);

@@ -2,7 +2,7 @@
 use native.Mathlib.Omega.{arith}
 use borrow.Author.Needs.{needs}
 use Rattle.number.specs.declared.NumberRead.the-variants as read
-use Rattle.number.specs.Inner.{GroupFits}
+use Rattle.number.specs.Asked.{GroupFits}
 use Rattle.number.specs.Seven.{groupBelow}
 use Rattle.number.proofs.group_below.Statement.{statement}
 use Rattle.number.proofs.group_below.Tie as tie

@@ -6,7 +6,7 @@ use native.Mathlib.Omega.{arith}
 use lib.ListN.{length}
 use Rattle.rules.specs.Reading.{pasted, repeated}
 use Rattle.pixel.specs.Packed.{unpacked}
-use Rattle.walk.specs.Inner.{fourBytes}
+use Rattle.walk.specs.Asked.{fourBytes}
 use Rattle.rules.proofs.PastingLaws.{pasted-none}
 use Rattle.walk.proofs.Pasting.{filled-more}
 use Rattle.walk.proofs.four.fill_four.Statement.{statement}

@@ -13,7 +13,7 @@ use Rattle.header.specs.Header.{pixelCount}
 use Rattle.header.proofs.Laws.{pixels-small}
 use Rattle.rules.specs.Decode.{decoderKeeps}
 use Rattle.walk.specs.Walking.{walking}
-use Rattle.walk.specs.Inner.{fourBytes}
+use Rattle.walk.specs.Asked.{fourBytes}
 use Rattle.rules.proofs.ChunkLaws.{slot-small}
 use Rattle.walk.proofs.Loop.{Of, Head, placeAt, finds, index-within, run-some, run-fits, colour-within, ends-bound, ends-cut, after-index, after-run, after-colour, four-bytes, unmapped}
 use Rattle.walk.proofs.Packed.{alphaIn, recoloured, alpha-kept}

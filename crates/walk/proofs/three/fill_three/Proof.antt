@@ -6,7 +6,7 @@ use native.Mathlib.Omega.{arith}
 use lib.ListN.{length}
 use Rattle.rules.specs.Reading.{pasted, repeated}
 use Rattle.pixel.specs.Packed.{unpacked}
-use Rattle.walk.specs.Inner.{threeBytes}
+use Rattle.walk.specs.Asked.{threeBytes}
 use Rattle.rules.proofs.PastingLaws.{pasted-none}
 use Rattle.walk.proofs.Pasting.{filled-more}
 use Rattle.walk.proofs.three.fill_three.Statement.{statement}

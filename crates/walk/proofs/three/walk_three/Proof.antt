@@ -15,7 +15,7 @@ use Rattle.header.specs.Header.{pixelCount}
 use Rattle.header.proofs.Laws.{pixels-small}
 use Rattle.rules.specs.Decode.{decoderKeeps}
 use Rattle.walk.specs.Walking.{walking}
-use Rattle.walk.specs.Inner.{threeBytes}
+use Rattle.walk.specs.Asked.{threeBytes}
 use Rattle.rules.proofs.ChunkLaws.{slot-small}
 use Rattle.walk.proofs.Loop.{Of, Head, placeAt, finds, index-within, run-some, run-fits, colour-within, ends-bound, ends-cut, after-index, after-run, after-colour, three-bytes, unmapped}
 use Rattle.walk.proofs.three.walk_three.Statement.{statement}

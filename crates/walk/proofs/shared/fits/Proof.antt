@@ -1,4 +1,4 @@
--- `walk::inner::fits` meets its contract: each test is one of the definition's.
+-- `walk::shared::fits` meets its contract: each test is one of the definition's.
 -- Assumes nothing.
 use Prim.{tt}
 use Prim.Native.Nat.{_+_, _-_, _*_, _≤_}
@@ -10,8 +10,8 @@ use lib.Dec.{lit<}
 use Rattle.header.specs.Header.{pixelCount}
 use Rattle.pixel.specs.Types.{channelsNumber}
 use Rattle.walk.specs.Walking.{fits}
-use Rattle.walk.proofs.inner.fits.Statement.{statement}
-use Rattle.walk.proofs.inner.fits.Tie as tie
+use Rattle.walk.proofs.shared.fits.Statement.{statement}
+use Rattle.walk.proofs.shared.fits.Tie as tie
 
 returns : tie.Need-returns
 unfolding fits
