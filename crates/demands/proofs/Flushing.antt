@@ -13,7 +13,7 @@ use Rattle.demands.specs.TakeOver.{bytesBefore, Life, stepsLeft, EndsAsU
 use Rattle.demands.specs.TakeOver as life
 use Rattle.demands.specs.Workers.{Partly}
 use Rattle.demands.specs.Flushing.{Shown, Torn, Stored, begun, stepped, flushed, saves, taken-up}
-use Rattle.demands.proofs.Way.{whole, same-needed}
+use Rattle.demands.proofs.Course.{whole, same-needed}
 use Rattle.demands.proofs.Held.{goes-as-uncut}
 use Rattle.demands.proofs.TakeOver.{readable, lived, take-over}
 
@@ -66,13 +66,13 @@ module _ (m : List ℕ) (w : ℕ) where
     step-stands s′ bytes e t is =
         let l = lived (k .life) in
         let a = k .sure t is in
-        let on = lived (a .life) .on-way in
-        goes-as-uncut m w b o s (l .on-way) (l .holds) s′ bytes e .others t on
+        let on = lived (a .life) .on-course in
+        goes-as-uncut m w b o s (l .on-course) (l .holds) s′ bytes e .others t on
         (record {
           same-length = l .holds .same-length;
           before = a .stands o (List·Memᴰ·head refl);
           beyond = l .holds .beyond;
-          short = λ few. l .holds .short (rw (same-needed m w s t (l .on-way) on) few);
+          short = λ few. l .holds .short (rw (same-needed m w s t (l .on-course) on) few);
         })
         .before
 
@@ -128,11 +128,11 @@ module _ (m : List ℕ) (w : ℕ) where
       torn-life r is =
           let a = k .sure r (List·Memᴰ·tail is) in
           let l = lived (a .life) in
-          life.taken-up (a .life) o′ (torn-stands r is ∙ sym (l .holds .before)) (readable r (l .on-way))
+          life.taken-up (a .life) o′ (torn-stands r is ∙ sym (l .holds .before)) (readable r (l .on-course))
 
       kept-taken-up : (r s′ : State) → List·Memᴰ r saved → readRecord (recordBytes r) ≡ started s′ → Kept s′ o′ o′ (o ∷ since) s′ saved
       kept-taken-up r s′ is e =
-          let same : r ≡ s′ = cc (readable r (lived (torn-life r is) .on-way)) in
+          let same : r ≡ s′ = cc (readable r (lived (torn-life r is) .on-course)) in
           rw (← same) (record { life = torn-life r is; sure = λ t at. go t (List·Memᴰ·cases-cons at) })
         where
           among : (t : State) → List·Memᴰ t saved → Sure (o′ ∷ o ∷ since) t

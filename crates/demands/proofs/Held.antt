@@ -1,4 +1,4 @@
--- An output in the hands of a worker on the uncut decode's way: what it holds, what a step makes of it, and what it holds at the end.
+-- An output in the hands of a worker on the uncut decode's course: what it holds, what a step makes of it, and what it holds at the end.
 -- Assumes nothing.
 use mathlib.Core.Path.{_≡_, refl, sym, _∙_, ap}
 use mathlib.Core.List.{List, _++_}
@@ -20,7 +20,7 @@ use Rattle.rules.proofs.ReadingLaws.{advances, stays-within}
 use Rattle.demands.specs.TakeOver.{bytesBefore}
 use Rattle.rules.proofs.StepLaws.{nextState, bytesBy, moveFrom, needed, Kind, not-well, no-room, at-end, by-chunk, kind}
 use Rattle.demands.proofs.Steps.{end-is-not-more, WentOn, went-on}
-use Rattle.demands.proofs.Way.{whole, OnWay, within, uncut-whole, uncut-short, whole-ends, same-needed, reached, written-on, reaches-on, goes-on-way}
+use Rattle.demands.proofs.Course.{whole, OnCourse, within, uncut-whole, uncut-short, whole-ends, same-needed, reached, written-on, reaches-on, goes-on-course}
 
 -- what follows place k in the first k + j of a list
 middle : (k j : ℕ) (l : List ℕ) → k ≤ length l → drop k (take (k + j) l) ≡ take j (drop k l)
@@ -56,15 +56,15 @@ module _ (m : List ℕ) (w : ℕ) where
 
   -- after a step from s to s′, which made o into o′
   pub record Onward (b o : List ℕ) (s s′ : State) (o′ : List ℕ) : Type 0 where
-    pub on-way : OnWay m w s′
+    pub on-course : OnCourse m w s′
     pub holds : Held b o′ s′
     pub further : s .place .pixel < s′ .place .pixel
     pub same-picture : pixelCount (s′ .header) ≡ pixelCount (s .header)
     pub roomy : needed s′ ≤ length b
     -- what another worker holds stays right
-    pub others : (t : State) → OnWay m w t → Held b o t → Held b o′ t
+    pub others : (t : State) → OnCourse m w t → Held b o t → Held b o′ t
 
-  module _ (b o : List ℕ) (s : State) (on : OnWay m w s) (held : Held b o s) where
+  module _ (b o : List ℕ) (s : State) (on : OnCourse m w s) (held : Held b o s) where
     -- the bytes that the whole reading writes are those before the pixel where it ends
     ends-there :
         (answer : Answer) → needed s ≤ length o → moveFrom m s ≡ Move.end answer
@@ -100,7 +100,7 @@ module _ (m : List ℕ) (w : ℕ) where
             rw (← same) (ends-there a fits stops)
         go v (Kind.by-chunk k fits sound missing moves) is = absurd (end-is-not-more (sym is))
 
-    -- a step that goes on leads along the way, and another worker's bytes stay right
+    -- a step that goes on leads along it, and another worker's bytes stay right
     module _ (k : Chunk) (fits : needed s ≤ length o) (sound : Sound (drop (s .place .at) m) k)
         (missing : s .place .pixel < pixelCount (s .header))
         (moves : moveFrom m s ≡ Move.more (nextState s k .place) (bytesBy s k)) where
@@ -144,7 +144,7 @@ module _ (m : List ℕ) (w : ℕ) where
       goes-there : Onward b o s (nextState s k) (steppedOver s (bytesBy s k) o)
       goes-there =
           record {
-            on-way = goes-on-way m w s on k sound missing moves;
+            on-course = goes-on-course m w s on k sound missing moves;
             holds = held-by (nextState s k) refl (rw (reached m w s on k sound missing moves) before-next);
             further = advances decoder (s .header) (s .wanted) (s .place) k (sound .once) missing;
             same-picture = refl;
@@ -152,7 +152,7 @@ module _ (m : List ℕ) (w : ℕ) where
             others = λ t on′ held′. held-by t (same-needed m w t s on′ on) (before-any (bytesBefore t) (held′ .before));
           }
 
-    -- a step that goes on leads along the way
+    -- a step that goes on leads along it
     went-along : (s′ : State) (bytes : List ℕ) → WentOn m s (length o) s′ bytes → Onward b o s s′ (steppedOver s bytes o)
     went-along s′ bytes c =
         rw (← c .next, ← c .written) (goes-there (c .done) (c .fits) (c .sound) (c .missing) (c .moves))

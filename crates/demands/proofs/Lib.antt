@@ -1,6 +1,6 @@
 -- The demands as theorems, and the laws behind them.
 pub mod Steps
-pub mod Way
+pub mod Course
 pub mod Held
 pub mod TakeOver
 pub mod Partly

@@ -10,7 +10,7 @@ use lib.Seq.{getD-take, getD-drop, ext-getD}
 use Rattle.rules.specs.Step.{State}
 use Rattle.demands.specs.TakeOver.{bytesBefore}
 use Rattle.demands.specs.Workers.{Partly}
-use Rattle.demands.proofs.Way.{whole}
+use Rattle.demands.proofs.Course.{whole}
 use Rattle.demands.proofs.Held.{Held}
 
 -- what is byte by byte the one or the other of two lists that are the same is the same

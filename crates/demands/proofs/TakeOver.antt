@@ -14,23 +14,23 @@ use Rattle.rules.specs.Record.{recordBytes, readRecord}
 use Rattle.rules.proofs.RecordLaws.{record-read-back}
 use Rattle.demands.specs.TakeOver.{bytesBefore, Life, begun, stepped, taken-up, stepsLeft, EndsAsUncut, runningOn}
 use Rattle.demands.proofs.Steps.{run-adds, run-keeps-before}
-use Rattle.demands.proofs.Way.{OnWay, within, starts-on-way, starts-at-none}
+use Rattle.demands.proofs.Course.{OnCourse, within, starts-on-course, starts-at-none}
 use Rattle.demands.proofs.Held.{Held, ends-as-uncut, goes-as-uncut}
 
--- a record of a state on the way is read back
-pub readable : {m : List ℕ} {w : ℕ} (s : State) → OnWay m w s → readRecord (recordBytes s) ≡ started s
+-- a record of a state on course is read back
+pub readable : {m : List ℕ} {w : ℕ} (s : State) → OnCourse m w s → readRecord (recordBytes s) ≡ started s
 readable s on = record-read-back s (on .typed) (on .well)
 
--- the state of a history is on the uncut decode's way, and its output holds what it must
+-- the state of a history is on the uncut decode's course, and its output holds what it must
 pub record Lived (m : List ℕ) (w : ℕ) (s : State) (o b : List ℕ) : Type 0 where
-  pub on-way : OnWay m w s
+  pub on-course : OnCourse m w s
   pub holds : Held m w b o s
 
 lived-begun :
     (m : List ℕ) (w : ℕ) (s : State) (o : List ℕ) → length m < 2 ^ 64 → starting m w ≡ started s → Lived m w s o o
 lived-begun m w s o small e =
     record {
-      on-way = starts-on-way m w s small e;
+      on-course = starts-on-course m w s small e;
       holds = record { same-length = refl; before = rw (starts-at-none m w s e); beyond = refl; short = λ few. refl };
     }
 
@@ -38,17 +38,17 @@ lived-stepped :
     (m : List ℕ) (w : ℕ) (s s′ : State) (o b bytes : List ℕ) → Lived m w s o b → step s m (length o) ≡ more s′ bytes
     → Lived m w s′ (steppedOver s bytes o) b
 lived-stepped m w s s′ o b bytes l e =
-    let next = goes-as-uncut m w b o s (l .on-way) (l .holds) s′ bytes e in
-    record { on-way = next .on-way; holds = next .holds }
+    let next = goes-as-uncut m w b o s (l .on-course) (l .holds) s′ bytes e in
+    record { on-course = next .on-course; holds = next .holds }
 
 lived-taken-up :
     (m : List ℕ) (w : ℕ) (s s′ : State) (o b o′ : List ℕ) → Lived m w s o b → take (bytesBefore s) o′ ≡ take (bytesBefore s) o
     → readRecord (recordBytes s) ≡ started s′ → Lived m w s′ o′ o′
 lived-taken-up m w s s′ o b o′ l agrees e =
-    let same : s ≡ s′ = cc (readable s (l .on-way)) in
+    let same : s ≡ s′ = cc (readable s (l .on-course)) in
     rw (← same)
     (record {
-      on-way = l .on-way;
+      on-course = l .on-course;
       holds = record { same-length = refl; before = agrees ∙ l .holds .before; beyond = refl; short = λ few. refl };
     })
 
@@ -59,16 +59,16 @@ lived {m} {w} (taken-up {s} {s′} {o} {b} life o′ agrees e) = lived-taken-up 
 
 -- every state that a history reaches is well formed, and its parts fit their types
 pub reached-well-formed : {m : List ℕ} {w : ℕ} {s : State} {o b : List ℕ} → Life m w s o b → T (wellFormed s) × Typed s
-reached-well-formed life = let on = lived life .on-way in (on .well, on .typed)
+reached-well-formed life = let on = lived life .on-course in (on .well, on .typed)
 
 -- every record that it writes can be read, and gives its state
 pub reached-readable :
     {m : List ℕ} {w : ℕ} {s : State} {o b : List ℕ} → Life m w s o b → readRecord (recordBytes s) ≡ started s
-reached-readable {s = s} life = readable s (lived life .on-way)
+reached-readable {s = s} life = readable s (lived life .on-course)
 
 -- a run of more steps than pixels are missing ends, as the uncut decode
 ends-within :
-    (m : List ℕ) (w n : ℕ) (s : State) (o b : List ℕ) → OnWay m w s → Held m w b o s
+    (m : List ℕ) (w n : ℕ) (s : State) (o b : List ℕ) → OnCourse m w s → Held m w b o s
     → pixelCount (s .header) < s .place .pixel + n → EndsAsUncut m w b (running m n s o)
 unfolding running
 ends-within m w zero s o b on held few = absurd (omega (arith, within m w s on))
@@ -76,7 +76,7 @@ ends-within m w (suc n) s o b on held few =
     go
     (λ s′ bytes e.
     let next = goes-as-uncut m w b o s on held s′ bytes e in
-    ends-within m w n s′ (steppedOver s bytes o) b (next .on-way) (next .holds) (omega (arith, next .further, next .same-picture)))
+    ends-within m w n s′ (steppedOver s bytes o) b (next .on-course) (next .holds) (omega (arith, next .further, next .same-picture)))
     (step s m (length o)) refl
   where
     go :
@@ -93,7 +93,7 @@ pub enough-steps :
     → EndsAsUncut m w b (running m n s o)
 enough-steps {m} {w} {s} {o} {b} life n enough =
     let l = lived life in
-    ends-within m w n s o b (l .on-way) (l .holds) (omega arith)
+    ends-within m w n s o b (l .on-course) (l .holds) (omega arith)
 
 pub take-over :
     {m : List ℕ} {w : ℕ} {s : State} {o b : List ℕ} → Life m w s o b → EndsAsUncut m w b (running m (stepsLeft s) s o)

@@ -14,7 +14,7 @@ use Rattle.rules.specs.Record.{recordBytes, readRecord}
 use Rattle.demands.specs.TakeOver.{bytesBefore}
 use Rattle.demands.specs.Workers.{Partly, Crew, nobody, joins, takes-up, steps, stops-inside, Undisturbed}
 use Rattle.rules.proofs.StepLaws.{needed}
-use Rattle.demands.proofs.Way.{OnWay, starts-on-way, starts-at-none, within, uncut-whole}
+use Rattle.demands.proofs.Course.{OnCourse, starts-on-course, starts-at-none, within, uncut-whole}
 use Rattle.demands.proofs.Held.{Held, ends-as-uncut, goes-as-uncut}
 use Rattle.demands.proofs.Partly.{held-partly}
 use Rattle.demands.proofs.TakeOver.{readable}
@@ -40,9 +40,9 @@ all-but :
 all-but P [] right s s′ new all = (new, all .1)
 all-but P (x ∷ left) right s s′ new all = (all .0, all-but P left right s s′ new (all .1))
 
--- a worker on the uncut decode's way, with the output that it shares
+-- a worker on the uncut decode's course, with the output that it shares
 record Working (m : List ℕ) (w : ℕ) (o₀ o : List ℕ) (s : State) : Type 0 where
-  on-way : OnWay m w s
+  on-course : OnCourse m w s
   holds : Held m w o₀ o s
   -- where there is no room it has not stepped
   idle : length o₀ < needed s → bytesBefore s ≡ 0
@@ -50,7 +50,7 @@ record Working (m : List ℕ) (w : ℕ) (o₀ o : List ℕ) (s : State) : Type 0
 -- a crew: each of its workers, and any that starts now
 record Manned (m : List ℕ) (w : ℕ) (o₀ : List ℕ) (ss : List State) (o : List ℕ) : Type 0 where
   small : length m < 2 ^ 64
-  welcome : (t : State) → OnWay m w t → bytesBefore t ≡ 0 → Held m w o₀ o t
+  welcome : (t : State) → OnCourse m w t → bytesBefore t ≡ 0 → Held m w o₀ o t
   each : All (Working m w o₀ o) ss
 
 module _ (m : List ℕ) (w : ℕ) (o₀ : List ℕ) where
@@ -64,12 +64,12 @@ module _ (m : List ℕ) (w : ℕ) (o₀ : List ℕ) where
 
   manned-joins : (s : State) (ss : List State) (o : List ℕ) → Manned m w o₀ ss o → starting m w ≡ started s → Manned m w o₀ (s ∷ ss) o
   manned-joins s ss o crew e =
-      let on = starts-on-way m w s (crew .small) e in
+      let on = starts-on-course m w s (crew .small) e in
       let none = starts-at-none m w s e in
       record {
         small = crew .small;
         welcome = crew .welcome;
-        each = (record { on-way = on; holds = crew .welcome s on none; idle = λ few. none }, crew .each);
+        each = (record { on-course = on; holds = crew .welcome s on none; idle = λ few. none }, crew .each);
       }
 
   module _ (left right : List State) (s : State) (o : List ℕ) (crew : Manned m w o₀ (left ++ (s ∷ right)) o) where
@@ -78,22 +78,22 @@ module _ (m : List ℕ) (w : ℕ) (o₀ : List ℕ) where
 
     manned-takes-up : (s′ : State) → readRecord (recordBytes s) ≡ started s′ → Manned m w o₀ (s′ ∷ (left ++ (s ∷ right))) o
     manned-takes-up s′ e =
-        let same : s ≡ s′ = cc (readable s (worker .on-way)) in
+        let same : s ≡ s′ = cc (readable s (worker .on-course)) in
         record { small = crew .small; welcome = crew .welcome; each = (rw (← same) worker, crew .each) }
 
     manned-steps :
         (s′ : State) (bytes : List ℕ) → step s m (length o) ≡ more s′ bytes
         → Manned m w o₀ (left ++ (s′ ∷ right)) (steppedOver s bytes o)
     manned-steps s′ bytes e =
-        let next = goes-as-uncut m w o₀ o s (worker .on-way) (worker .holds) s′ bytes e in
+        let next = goes-as-uncut m w o₀ o s (worker .on-course) (worker .holds) s′ bytes e in
         record {
           small = crew .small;
           welcome = λ t on none. next .others t on (crew .welcome t on none);
           each =
               all-but (Working m w o₀ (steppedOver s bytes o)) left right s s′
-              (record { on-way = next .on-way; holds = next .holds; idle = λ few. absurd (omega (arith, next .roomy)) })
+              (record { on-course = next .on-course; holds = next .holds; idle = λ few. absurd (omega (arith, next .roomy)) })
               (all-map (Working m w o₀ o) (Working m w o₀ (steppedOver s bytes o))
-              (λ t a. record { on-way = a .on-way; holds = next .others t (a .on-way) (a .holds); idle = a .idle })
+              (λ t a. record { on-course = a .on-course; holds = next .others t (a .on-course) (a .holds); idle = a .idle })
               (left ++ (s ∷ right)) (crew .each));
         }
 
@@ -101,15 +101,15 @@ module _ (m : List ℕ) (w : ℕ) (o₀ : List ℕ) where
         (s′ : State) (bytes o′ : List ℕ) → step s m (length o) ≡ more s′ bytes → Partly o (steppedOver s bytes o) o′
         → Manned m w o₀ (left ++ (s ∷ right)) o′
     manned-stops-inside s′ bytes o′ e partly =
-        let next = goes-as-uncut m w o₀ o s (worker .on-way) (worker .holds) s′ bytes e in
-        let keeps : (t : State) → OnWay m w t → Held m w o₀ o t → Held m w o₀ o′ t =
+        let next = goes-as-uncut m w o₀ o s (worker .on-course) (worker .holds) s′ bytes e in
+        let keeps : (t : State) → OnCourse m w t → Held m w o₀ o t → Held m w o₀ o′ t =
         λ t on held. held-partly o (steppedOver s bytes o) o′ partly m w o₀ t held (next .others t on held) in
         record {
           small = crew .small;
           welcome = λ t on none. keeps t on (crew .welcome t on none);
           each =
               all-map (Working m w o₀ o) (Working m w o₀ o′)
-              (λ t a. record { on-way = a .on-way; holds = keeps t (a .on-way) (a .holds); idle = a .idle })
+              (λ t a. record { on-course = a .on-course; holds = keeps t (a .on-course) (a .holds); idle = a .idle })
               (left ++ (s ∷ right)) (crew .each);
         }
 
@@ -132,7 +132,7 @@ reaches-uncut m w o₀ o s a = go (decLe (needed s) (length o₀))
         Dec (needed s ≤ length o₀)
         → (bytesBefore s ≤ length (decoding m w (length o₀) .bytes))
         × (take (bytesBefore s) o ≡ take (bytesBefore s) (decoding m w (length o₀) .bytes))
-    go (yes fits) = rw (uncut-whole m w s (a .on-way) (length o₀) fits) (a .on-way .reaches, a .holds .before)
+    go (yes fits) = rw (uncut-whole m w s (a .on-course) (length o₀) fits) (a .on-course .reaches, a .holds .before)
     go (no lacks) = rw (a .idle (lt-of-not-le lacks)) (zero-le, refl)
 
 -- a worker is undisturbed
@@ -143,9 +143,9 @@ undisturbed m w o₀ o s a =
       same-length = a .holds .same-length;
       reaches = before .0;
       stand = before .1;
-      within = within m w s (a .on-way);
-      further = λ s′ bytes e. goes-as-uncut m w o₀ o s (a .on-way) (a .holds) s′ bytes e .further;
-      ends = ends-as-uncut m w o₀ o s (a .on-way) (a .holds);
+      within = within m w s (a .on-course);
+      further = λ s′ bytes e. goes-as-uncut m w o₀ o s (a .on-course) (a .holds) s′ bytes e .further;
+      ends = ends-as-uncut m w o₀ o s (a .on-course) (a .holds);
     }
 
 -- in every order of the workers' steps, each worker finds the uncut decode's bytes before its pixel, and ends as the uncut decode

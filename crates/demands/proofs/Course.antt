@@ -1,4 +1,4 @@
--- The uncut decode's way: what holds of every state on it; a start is on it, a chunk leads along it, and where it ends the uncut decode ends.
+-- The uncut decode's course: what holds of every state on it; a start is on it, a chunk leads along it, and where it ends the uncut decode ends.
 -- Assumes nothing.
 use mathlib.Core.Path.{_≡_, refl, sym, _∙_, ap}
 use mathlib.Core.List.{List, _++_, append-nil}
@@ -93,7 +93,7 @@ module _ (m : List ℕ) (w : ℕ) where
   whole = wholeFrom m (starting m w)
 
   -- a state that the uncut decode passes: the first bytes of the whole reading, up to its pixel, and the reading from it are the whole reading
-  pub record OnWay (s : State) : Type 0 where
+  pub record OnCourse (s : State) : Type 0 where
     pub opened : starting m w ≡ started (startState (s .header) (s .wanted))
     pub well : T (wellFormed s)
     pub typed : Typed s
@@ -102,12 +102,12 @@ module _ (m : List ℕ) (w : ℕ) where
     pub reaches : bytesBefore s ≤ length (whole .bytes)
     pub path : after (take (bytesBefore s) (whole .bytes)) (ahead m s) ≡ whole
 
-  -- a start is on the way
-  start-on-way :
+  -- a start is on course
+  start-on-course :
       (header : Header) (c : Channels) → headerOf m ≡ header-read.Ok header → length m < 2 ^ 64
-      → starting m w ≡ started (startState header (channelsNumber c)) → OnWay (startState header (channelsNumber c))
+      → starting m w ≡ started (startState header (channelsNumber c)) → OnCourse (startState header (channelsNumber c))
   unfolding startPlace wholeFrom
-  start-on-way header c reads small e =
+  start-on-course header c reads small e =
       let accepted = header-accepted m header reads in
       let sides = sides-fit header (accepted .fit) in
       record {
@@ -136,10 +136,10 @@ module _ (m : List ℕ) (w : ℕ) where
         path = rw (e, zero-mul);
       }
 
-  pub starts-on-way : (s : State) → length m < 2 ^ 64 → starting m w ≡ started s → OnWay s
-  starts-on-way s small e =
+  pub starts-on-course : (s : State) → length m < 2 ^ 64 → starting m w ≡ started s → OnCourse s
+  starts-on-course s small e =
       let o = opening m w s e in
-      rw (← o .is) (start-on-way (o .header) (o .channels) (o .reads) small (e ∙ ap started (sym (o .is))))
+      rw (← o .is) (start-on-course (o .header) (o .channels) (o .reads) small (e ∙ ap started (sym (o .is))))
 
   -- and has no byte before it
   pub starts-at-none : (s : State) → starting m w ≡ started s → bytesBefore s ≡ 0
@@ -149,12 +149,12 @@ module _ (m : List ℕ) (w : ℕ) where
       rw (← o .is) (zero-mul (channelsNumber (o .channels)))
 
   -- two states on it are of one picture
-  pub same-needed : (s t : State) → OnWay s → OnWay t → needed s ≡ needed t
+  pub same-needed : (s t : State) → OnCourse s → OnCourse t → needed s ≡ needed t
   same-needed s t on on′ =
       let same : startState (s .header) (s .wanted) ≡ startState (t .header) (t .wanted) = cc (on .opened, on′ .opened) in
       ap needed same
 
-  module _ (s : State) (on : OnWay s) where
+  module _ (s : State) (on : OnCourse s) where
     -- the pixels of the slots
     shaped : Shaped (s .place .slots) (s .place .current)
     shaped =
@@ -176,7 +176,7 @@ module _ (m : List ℕ) (w : ℕ) where
     uncut-short room short =
         uncut-reads m w room (startState (s .header) (s .wanted)) (on .opened) ∙ rw (lt-ltb room (needed s) short)
 
-    -- where the way ends the whole reading ends
+    -- where the course ends the whole reading ends
     pub whole-ends :
         (answer : Answer) → moveFrom m s ≡ Move.end answer
         → (answer ≡ whole .answer) × (whole .bytes ≡ take (bytesBefore s) (whole .bytes))
@@ -219,9 +219,9 @@ module _ (m : List ℕ) (w : ℕ) where
       pub reaches-on : bytesBefore s + length (bytesBy s k) ≤ length (whole .bytes)
       reaches-on = omega (arith, simp length-append at written-length, simp length-append at (ap (λ (r : Reading). length (r .bytes)) longer))
 
-      -- the state after it is on the way
-      pub goes-on-way : OnWay (nextState s k)
-      goes-on-way =
+      -- the state after it is on course
+      pub goes-on-course : OnCourse (nextState s k)
+      goes-on-course =
           let shape = shaped-next (s .header) (s .wanted) (s .place) k shaped sound in
           let inside′ = stays-inside (s .header) (s .wanted) m (s .place) k (on .inside) sound in
           record {
