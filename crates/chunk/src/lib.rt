@@ -138,8 +138,8 @@ pub fn alpha(previous: u8, colour: Colour) -> u8
     }
 }
 
-// The packed pixel of the colour that a chunk makes of the previous one, with the alpha that is handed in: a loop that took it out of each
-// pixel would wait for it.
+// The packed pixel of the colour that a chunk makes of the previous one, with the alpha that is handed in: a loop
+// that took it out of each pixel would wait for it.
 pub fn recolour(previous: u32, alpha: u8, colour: Colour) -> u32
     ensures { λ r. ⌜ unpacked r ≡ withAlpha (colourOf [] (unpacked previous) (chunkOf colour)) alpha ⌝ }
 {

@@ -14,7 +14,7 @@ use Rattle.header.specs.declared.HeaderRead.{HeaderRead}
 use Rattle.header.specs.declared.HeaderRead.the-variants as header-read
 use Rattle.header.specs.Header.{headerOf}
 use Rattle.header.proofs.Laws.{pixels-small}
-use Rattle.rules.specs.Reading.{Answer, refused, silent, withWanted, withHeader, wholeReading}
+use Rattle.rules.specs.Reading.{Answer, refused, silent, afterWanted, afterHeader, wholeReading}
 use Rattle.rules.specs.Decode.{decoder, decoding, writtenOver}
 use Rattle.rules.specs.Step.{State, started, notStarted, startWanted, startHeader, starting, going, ended, running}
 use Rattle.rules.proofs.RecordLaws.{formed}
@@ -23,14 +23,14 @@ use Rattle.demands.proofs.TakeOver.{enough-steps, reached-well-formed}
 
 -- what refuses a start refuses the decode
 pub refused-start : (m : List ℕ) (w room : ℕ) (e : Error) → starting m w ≡ notStarted e → decoding m w room ≡ silent (refused e)
-unfolding starting startHeader startWanted wholeReading withHeader withWanted
+unfolding starting startHeader startWanted wholeReading afterHeader afterWanted
 refused-start m w room e is = heading (headerOf m) is
   where
-    wanting : (header : Header) (c : ChannelsRead) → startWanted header c ≡ notStarted e → withWanted decoder m room header c ≡ silent (refused e)
+    wanting : (header : Header) (c : ChannelsRead) → startWanted header c ≡ notStarted e → afterWanted decoder m room header c ≡ silent (refused e)
     wanting header (channels-read.Refused x) is = let same : x ≡ e = cc in ap (λ (y : Error). silent (refused y)) same
     wanting header (channels-read.Ok c) is = absurd (let z : _≡_ {A = ℕ} 0 1 = cc in omega arith)
 
-    heading : (r : HeaderRead) → startHeader w r ≡ notStarted e → withHeader decoder m room w r ≡ silent (refused e)
+    heading : (r : HeaderRead) → startHeader w r ≡ notStarted e → afterHeader decoder m room w r ≡ silent (refused e)
     heading (header-read.Refused x) is = let same : x ≡ e = cc in ap (λ (y : Error). silent (refused y)) same
     heading (header-read.Ok header) is = wanting header (channelsFrom w) is
 

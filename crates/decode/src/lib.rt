@@ -59,7 +59,8 @@ pub fn decode_to_buf(out: &mut [u8], message: &[u8]) -> HeaderRead
     }
 }
 
-// What follows the bytes that an answer says were used; the empty part at the message's end after a refusal, and where it says more than there are.
+// What follows the bytes that an answer says were used; the empty part at the message's end after a refusal, and
+// where it says more than there are.
 pub fn rest(message: &[u8], decoded: Decoded) -> &[u8]
     ensures { λ r. ⌜ IsRest (message .entry) (answerOf decoded) r ⌝ }
 {

@@ -1,4 +1,5 @@
--- The uncut decode's course: what holds of every state on it; a start is on it, a chunk leads along it, and where it ends the uncut decode ends.
+-- The uncut decode's course: what holds of every state on it; a start is on it, a chunk leads along it, and where it
+-- ends the uncut decode ends.
 -- Assumes nothing.
 use mathlib.Core.Path.{_≡_, refl, sym, _∙_, ap}
 use mathlib.Core.List.{List, _++_, append-nil}
@@ -21,7 +22,7 @@ use Rattle.header.specs.declared.HeaderRead.the-variants as header-read
 use Rattle.header.specs.Header.{pixelCount, headerOf}
 use Rattle.header.proofs.Laws.{header-accepted, sides-fit}
 use Rattle.rules.specs.Chunk.{Chunk}
-use Rattle.rules.specs.Reading.{Answer, refused, Reading, Move, silent, after, readOn, startPlace, remaining, readingInto, withWanted, withHeader, wholeReading}
+use Rattle.rules.specs.Reading.{Answer, refused, Reading, Move, silent, after, readOn, startPlace, remaining, readingInto, afterWanted, afterHeader, wholeReading}
 use Rattle.rules.specs.Decode.{decoder, decoding}
 use Rattle.rules.specs.Step.{State, Typed, alphaPasses, wantedPasses, wellFormed, Started, started, notStarted, startWanted, startHeader, starting}
 use Rattle.rules.proofs.ChunkLaws.{Sound}
@@ -62,7 +63,7 @@ opening m w s e = heading (headerOf m) refl e
 uncut-reads :
     (m : List ℕ) (w room : ℕ) (s : State) → starting m w ≡ started s
     → decoding m w room ≡ readingInto decoder (s .header) (s .wanted) m room
-unfolding wholeReading withHeader withWanted
+unfolding wholeReading afterHeader afterWanted
 uncut-reads m w room s e =
     let o = opening m w s e in
     rw (← o .is, o .reads, o .wants)
@@ -92,7 +93,8 @@ module _ (m : List ℕ) (w : ℕ) where
   abbrev pub whole : Reading
   whole = wholeFrom m (starting m w)
 
-  -- a state that the uncut decode passes: the first bytes of the whole reading, up to its pixel, and the reading from it are the whole reading
+  -- a state that the uncut decode passes: the first bytes of the whole reading, up to its pixel, and the reading from
+  -- it are the whole reading
   pub record OnCourse (s : State) : Type 0 where
     pub opened : starting m w ≡ started (startState (s .header) (s .wanted))
     pub well : T (wellFormed s)

@@ -1,4 +1,5 @@
--- The document's reading of an accepted message is the decoder's, at the header's own channels, if no INDEX names a slot not yet filled.
+-- The document's reading of an accepted message is the decoder's, at the header's own channels, if no INDEX names a
+-- slot not yet filled.
 -- Assumes nothing: a message's numbers need not be bytes.
 use mathlib.Core.Path.{_≡_, refl, sym, _∙_, ap}
 use mathlib.Core.Bool.{Bool, true, false, cond, _&&_, _||_}
@@ -68,13 +69,15 @@ kept-alpha wanted p r g b = go (eqb wanted 3)
 abbrev mayName : ℕ → List Bool → ℕ → Bool
 mayName channels filled slot = getD filled slot false || (eqb channels 4 && eqb slot 0)
 
--- a slot of the decoder's and the same slot of the document's: one pixel, whose slot it is, and of which the decoder keeps all
+-- a slot of the decoder's and the same slot of the document's: one pixel, whose slot it is, and of which the decoder
+-- keeps all
 record SameSlot (channels i : ℕ) (d q : Pixel) : Type 0 where
   same : d ≡ q
   own : slotOf d ≡ i
   kept : Kept channels d
 
--- the decoder's slots and the document's agree as far as INDEX may name them; the current pixel stands in its own, if it may be named
+-- the decoder's slots and the document's agree as far as INDEX may name them; the current pixel stands in its own, if
+-- it may be named
 record Agree (channels : ℕ) (d q : List Pixel) (filled : List Bool) (current : Pixel) : Type 0 where
   d-are : length d ≡ 64
   q-are : length q ≡ 64

@@ -1,4 +1,5 @@
--- No INDEX of the encoder's names a slot that is not yet filled, slot 0 of a 4-channel source excepted: what a slot of the pen holds was stored by a chunk of its colour, or is clear.
+-- No INDEX of the encoder's names a slot that is not yet filled, slot 0 of a 4-channel source excepted: what a slot
+-- of the pen holds was stored by a chunk of its colour, or is clear.
 -- Assumes nothing.
 use mathlib.Core.Path.{_≡_, refl, sym, _∙_, ap}
 use mathlib.Core.Bool.{Bool, true, false, _&&_}
@@ -29,7 +30,8 @@ use Rattle.rules.proofs.PictureLaws.{three-at-least}
 use Rattle.demands.proofs.PenAndPlace.{decoder-reads}
 use Rattle.demands.proofs.Traced.{placeThen, visitsBy}
 
--- the decoder's place has the pen's slots and its previous pixel; and where a slot holds a pixel of a picture, INDEX may name it
+-- the decoder's place has the pen's slots and its previous pixel; and where a slot holds a pixel of a picture, INDEX
+-- may name it
 record Tracks (n : ℕ) (slots : List Pixel) (previous : Pixel) (differed : Bool) (place : Place) (filled : List Bool) : Type 0 where
   current : place .current ≡ previous
   same : place .slots ≡ slots

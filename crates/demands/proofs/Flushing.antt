@@ -1,4 +1,5 @@
--- The order of flushing, proved: where a record is saved only of a state that a flush has followed, every take-up after a crash is one of demand 3.
+-- The order of flushing, proved: where a record is saved only of a state that a flush has followed, every take-up
+-- after a crash is one of demand 3.
 -- Assumes nothing.
 use mathlib.Core.List.{List, [], _∷_, List·Memᴰ, List·Memᴰ·head, List·Memᴰ·tail, List·Memᴰ·cases-cons, List·Memᴰ·eq-of-singleton}
 use mathlib.Core.Logic.{_⊎_, inl, inr}
@@ -202,7 +203,8 @@ pub checkpointed :
     → (s′ : State) (o′ : List ℕ) → running m n s o ≡ going s′ o′ → Stored m w s′ o′ b [] s′ (s′ ∷ saved)
 checkpointed n h s′ o′ e = saves (flushed (run-stored n h s′ o′ e .1))
 
--- a crash may leave what the store showed at any moment since the last flush: a killed process the last, a power cut that keeps no later write the first
+-- a crash may leave what the store showed at any moment since the last flush: a killed process the last, a power cut
+-- that keeps no later write the first
 pub as-shown :
     (o : List ℕ) (since : List (List ℕ)) (saved : List State) (x : List ℕ) → List·Memᴰ x (o ∷ since) → length x ≡ length o
     → Torn o since saved x

@@ -1,4 +1,5 @@
--- An output in the hands of a worker on the uncut decode's course: what it holds, what a step makes of it, and what it holds at the end.
+-- An output in the hands of a worker on the uncut decode's course: what it holds, what a step makes of it, and what
+-- it holds at the end.
 -- Assumes nothing.
 use mathlib.Core.Path.{_≡_, refl, sym, _∙_, ap}
 use mathlib.Core.List.{List, _++_}

@@ -1,4 +1,5 @@
--- A worker that stops inside a step, at any moment: the checkpoint that it went on from may be taken up on what it left.
+-- A worker that stops inside a step, at any moment: the checkpoint that it went on from may be taken up on what it
+-- left.
 -- Assumes nothing.
 use mathlib.Core.Path.{_≡_, sym, _∙_, ap}
 use mathlib.Core.List.{List}

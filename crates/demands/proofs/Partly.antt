@@ -1,4 +1,5 @@
--- An output over which a step stopped inside: where it was right before the step and would be right after it, it is right.
+-- An output over which a step stopped inside: where it was right before the step and would be right after it, it is
+-- right.
 -- Assumes nothing.
 use mathlib.Core.Logic.{_⊎_, inl, inr}
 use mathlib.Core.Path.{_≡_, sym, _∙_, ap}

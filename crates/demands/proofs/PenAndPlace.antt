@@ -1,5 +1,7 @@
--- The encoder's pen and a reader's place: how their slots stand to each other, over every way that reads an encoder's chunks.
--- The document stores pixels of RUN and INDEX too. Where that puts a pixel into a slot that the pen has not filled, the pen's slot holds no pixel of that slot, so no INDEX is chosen there.
+-- The encoder's pen and a reader's place: how their slots stand to each other, over every way that reads an encoder's
+-- chunks.
+-- The document stores pixels of RUN and INDEX too. Where that puts a pixel into a slot that the pen has not filled,
+-- the pen's slot holds no pixel of that slot, so no INDEX is chosen there.
 -- Assumes nothing.
 use mathlib.Core.Path.{_≡_, refl, sym, _∙_, ap}
 use mathlib.Core.Bool.{Bool, true, false, cond}
@@ -28,7 +30,8 @@ use Rattle.rules.proofs.PenLaws.{Ended, no-run, as-index, as-run, ended, Differ
 use Rattle.rules.proofs.ChunkLaws.{slot-small}
 use Rattle.rules.proofs.EncodeLaws.{Writable, Whole, start-whole, chunk-read-back, chunk-length, pixel-is, same-is, colour-chosen}
 
--- what a way does to read an encoder's chunks: it keeps whole pixels as they are, stores what the decoder stores, and reads RGBA where there are not three channels
+-- what a way does to read an encoder's chunks: it keeps whole pixels as they are, stores what the decoder stores, and
+-- reads RGBA where there are not three channels
 pub record Reads (way : Way) (n : ℕ) : Type 0 where
   pub keeps-is : (p : Pixel) → Whole n p → way .keeps n p ≡ p
   pub stores-is : (k : Chunk) → decoderStores k ≡ true → way .stores k ≡ true

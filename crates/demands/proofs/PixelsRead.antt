@@ -1,4 +1,5 @@
--- The encoder's chunks read back, over every way that reads them: the pixels of the run that the pen holds back and the pixels to come, and then the marker.
+-- The encoder's chunks read back, over every way that reads them: the pixels of the run that the pen holds back and
+-- the pixels to come, and then the marker.
 -- Assumes nothing.
 use mathlib.Core.Path.{_≡_, refl, sym, _∙_, ap}
 use mathlib.Core.Bool.{Bool, true, false}

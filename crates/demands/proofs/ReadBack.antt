@@ -1,4 +1,5 @@
--- Against the document, (a): a stream of the encoder is read back as the picture, by the document's rules and by the decoder's; so is whatever an encode that is accepted wrote.
+-- Against the document, (a): a stream of the encoder is read back as the picture, by the document's rules and by the
+-- decoder's; so is whatever an encode that is accepted wrote.
 -- Assumes nothing.
 use mathlib.Core.Path.{_≡_, refl, _∙_, ap}
 use mathlib.Core.List.{List}
@@ -12,7 +13,7 @@ use Rattle.pixel.specs.Types.{channelsNumber}
 use Rattle.header.specs.declared.Header.{Header}
 use Rattle.header.specs.Header.{pixelCount, dimensionsFit}
 use Rattle.header.proofs.Laws.{channels-number, channels-read-back}
-use Rattle.rules.specs.Reading.{Way, repeated, sizeWanted, startPlace, remaining, readingInto, withWanted, withHeader, wholeReading}
+use Rattle.rules.specs.Reading.{Way, repeated, sizeWanted, startPlace, remaining, readingInto, afterWanted, afterHeader, wholeReading}
 use Rattle.rules.specs.Decode.{decoder}
 use Rattle.rules.specs.Document.{document}
 use Rattle.rules.specs.Encode.{startPen, pixelsFrom, chunksOf, streamOf, encoded, encoding}
@@ -44,7 +45,7 @@ module _ (header : Header) (picture : List ℕ) (fit : T (dimensionsFit (header 
     stream-read :
         (room : ℕ) → length picture ≤ room
         → wholeReading way (streamOf header picture) (channelsNumber (header .channels)) room ≡ pictureRead picture (streamOf header picture)
-    unfolding wholeReading withHeader withWanted readingInto
+    unfolding wholeReading afterHeader afterWanted readingInto
     stream-read room fits =
         rw (stream-opens header picture fit, channels-read-back (header .channels), le-ltb room (sizeWanted header (channelsNumber (header .channels))) (omega arith))
         chunks-read

@@ -1,4 +1,5 @@
--- Laws of steps and runs, of every state: what kinds of step there are, what a step keeps, that an end stays the end, and that runs add up.
+-- Laws of steps and runs, of every state: what kinds of step there are, what a step keeps, that an end stays the end,
+-- and that runs add up.
 -- Assumes nothing.
 use mathlib.Core.Path.{_≡_, refl, sym, _∙_, ap}
 use mathlib.Core.List.{List}

@@ -1,4 +1,5 @@
--- The encoder's streams: the strict check accepts every one, with its chunks and its bytes, and each keeps the condition of (b); so does whatever an encode that is accepted wrote.
+-- The encoder's streams: the strict check accepts every one, with its chunks and its bytes, and each keeps the
+-- condition of (b); so does whatever an encode that is accepted wrote.
 -- Assumes nothing.
 use mathlib.Core.Path.{_≡_, sym, _∙_, ap}
 use mathlib.Core.List.{List}

@@ -1,4 +1,5 @@
--- The strict check accepts exactly if a decode accepts, no run is longer than the pixels left and nothing follows the marker; and it counts what was read.
+-- The strict check accepts exactly if a decode accepts, no run is longer than the pixels left and nothing follows the
+-- marker; and it counts what was read.
 -- Assumes nothing.
 use mathlib.Core.Path.{_≡_, refl, sym, _∙_, ap}
 use mathlib.Core.Bool.{Bool, true, false, cond, not}
@@ -23,7 +24,7 @@ use Rattle.header.specs.declared.HeaderRead.{HeaderRead}
 use Rattle.header.specs.declared.HeaderRead.the-variants as header-read
 use Rattle.header.specs.Header.{pixelCount, headerOf}
 use Rattle.rules.specs.Chunk.{Chunk, Found, cut, chunk, chunkAt, timesOf, sizeOf, INDEX, DIFF, LUMA, RUN, RGB, RGBA, Stuck}
-use Rattle.rules.specs.Reading.{Place, Answer, done, refused, Move, silent, readOn, marker, sameBytes, closing, startPlace, sizeWanted, pixelsBrought, placeAfter, moveBy, move, reading, remaining, readingInto, withWanted, withHeader, wholeReading}
+use Rattle.rules.specs.Reading.{Place, Answer, done, refused, Move, silent, readOn, marker, sameBytes, closing, startPlace, sizeWanted, pixelsBrought, placeAfter, moveBy, move, reading, remaining, readingInto, afterWanted, afterHeader, wholeReading}
 use Rattle.rules.specs.Decode.{decoder, decoderReadsRgba, decoding, restOf}
 use Rattle.rules.specs.Trace.{Visit, ownChannels, visitsOn, chunkDue, visits, trace}
 use Rattle.rules.specs.Strict.{StrictAnswer, accepted, rejected, Tally, more, end, checkOn, strictClosed, strictClosing, strictCounted, strictBy, strictMove, strictFrom, strictHeader, strict, runsFitIn, chunkCount}
@@ -104,7 +105,8 @@ module _ (header : Header) (message : List ℕ) (wanted : ℕ) where
   abbrev placeAt : ℕ → ℕ → Pixel → List Pixel → Place
   placeAt at pixel current slots = record { at = at; pixel = pixel; current = current; slots = slots }
 
-  -- a verdict from any such place; the reading at wanted channels and the trace at the header's own have pixels of their own
+  -- a verdict from any such place; the reading at wanted channels and the trace at the header's own have pixels of
+  -- their own
   abbrev Judged : ℕ → Type 0
   Judged n =
       (at pixel chunks : ℕ) (p q : Pixel) (ps qs : List Pixel)
@@ -201,7 +203,7 @@ record Opened (m : List ℕ) (w room size used : ℕ) : Type 0 where
   ends : remaining decoder header (channelsNumber channels) m startPlace .answer ≡ done size used
 
 opened : (m : List ℕ) (w room size used : ℕ) → decoding m w room .answer ≡ done size used → Opened m w room size used
-unfolding wholeReading withHeader withWanted readingInto
+unfolding wholeReading afterHeader afterWanted readingInto
 opened m w room size used = heading (headerOf m) refl
   where
     roomy :
@@ -212,12 +214,12 @@ opened m w room size used = heading (headerOf m) refl
     roomy header c reads false e = record { header = header; channels = c; reads = reads; ends = e }
 
     wanting :
-        (header : Header) → headerOf m ≡ header-read.Ok header → (c : ChannelsRead) → withWanted decoder m room header c .answer ≡ done size used
+        (header : Header) → headerOf m ≡ header-read.Ok header → (c : ChannelsRead) → afterWanted decoder m room header c .answer ≡ done size used
         → Opened m w room size used
     wanting header reads (channels-read.Refused x) e = absurd (refused-is-not-done e)
     wanting header reads (channels-read.Ok c) e = roomy header c reads (ltb room (sizeWanted header (channelsNumber c))) e
 
-    heading : (r : HeaderRead) → headerOf m ≡ r → withHeader decoder m room w r .answer ≡ done size used → Opened m w room size used
+    heading : (r : HeaderRead) → headerOf m ≡ r → afterHeader decoder m room w r .answer ≡ done size used → Opened m w room size used
     heading (header-read.Refused x) reads e = absurd (refused-is-not-done e)
     heading (header-read.Ok header) reads e = wanting header reads (channelsFrom w) e
 

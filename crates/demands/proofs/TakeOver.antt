@@ -87,7 +87,8 @@ ends-within m w (suc n) s o b on held few =
         let uncut = ends-as-uncut m w b o s on held answer e in
         (s, rw (← uncut .0, ← uncut .1))
 
--- from every history the end comes within the pixels still missing plus one steps, and is the uncut decode's; so it is with more steps
+-- from every history the end comes within the pixels still missing plus one steps, and is the uncut decode's; so it
+-- is with more steps
 pub enough-steps :
     {m : List ℕ} {w : ℕ} {s : State} {o b : List ℕ} → Life m w s o b → (n : ℕ) → stepsLeft s ≤ n
     → EndsAsUncut m w b (running m n s o)
@@ -129,7 +130,8 @@ run-ends-as-uncut {m} {w} {s} {o} {b} life n answer last left e =
     run-adds m n (stepsLeft s) s o ∙ ap (runningOn m (stepsLeft s)) e ∙ sym e in
     (over .0, sym stays ∙ rw (add-comm n (stepsLeft s)) (run-adds m (stepsLeft s) n s o ∙ ap (runningOn m n) (over .1)))
 
--- a worker goes on from a checkpoint and dies after any number of steps: the checkpoint is taken up again on what it left
+-- a worker goes on from a checkpoint and dies after any number of steps: the checkpoint is taken up again on what it
+-- left
 pub left-behind :
     {m : List ℕ} {w : ℕ} {s : State} {o b : List ℕ} → Life m w s o b → (n : ℕ)
     → Life m w s (outputOf (running m n s o)) (outputOf (running m n s o))

@@ -1,4 +1,5 @@
--- The trace of a stream of the encoder is its chunks, each in its place; they bring the picture's pixels and no more, so no run is longer than the pixels left.
+-- The trace of a stream of the encoder is its chunks, each in its place; they bring the picture's pixels and no more,
+-- so no run is longer than the pixels left.
 -- Assumes nothing.
 use mathlib.Core.Path.{_≡_, refl, sym, _∙_, ap}
 use mathlib.Core.Bool.{Bool, true, false, cond}
@@ -85,7 +86,8 @@ module _ (header : Header) where
         ∙ ap (drop (sizeOf k)) stands
         ∙ drop-at (chunkBytes k) rest (sizeOf k) (chunk-length k)
 
-    -- chunks that can be written, and bring the pixels that are missing, are what the decoder reads where their bytes stand
+    -- chunks that can be written, and bring the pixels that are missing, are what the decoder reads where their bytes
+    -- stand
     pub visits-are :
         (n : ℕ) (ks : List Chunk) (place : Place) (rest : List ℕ) → Writables (decoderReadsRgba (ownChannels header)) ks
         → place .pixel + timesIn ks ≡ pixelCount header → pixelCount header ≤ place .pixel + n

@@ -1,4 +1,5 @@
--- A history at work, computed: two pixels, c0 35, cut after the first and taken up on an output that holds other bytes from there on.
+-- A history at work, computed: two pixels, c0 35, cut after the first and taken up on an output that holds other
+-- bytes from there on.
 -- Assumes nothing.
 use mathlib.Core.Path.{_≡_, refl, ap}
 use mathlib.Core.List.{List, [], _∷_, _++_, List·Memᴰ·head, List·Memᴰ·tail}
@@ -12,7 +13,7 @@ use Rattle.pixel.specs.Colour.{startPixel, clearPixel, slotOf}
 use Rattle.header.specs.declared.Header.{Header}
 use Rattle.header.specs.Header.{headerBytes, headerFrom, afterColorSpace, afterChannels, headerOf}
 use Rattle.rules.specs.Chunk.{chunkFrom, chunkAt, colourOf, timesOf, sizeOf}
-use Rattle.rules.specs.Reading.{done, marker, sameBytes, repeated, closing, startPlace, pixelsBrought, pixelAfter, placeAfter, bytesOf, moveBy, move, reading, readingInto, withWanted, withHeader, wholeReading}
+use Rattle.rules.specs.Reading.{done, marker, sameBytes, repeated, closing, startPlace, pixelsBrought, pixelAfter, placeAfter, bytesOf, moveBy, move, reading, readingInto, afterWanted, afterHeader, wholeReading}
 use Rattle.rules.specs.Decode.{decoderStores, decoderKeeps, decoderReadsRgba}
 use Rattle.rules.specs.Step.{State, wellFormed, startWanted, startHeader, starting, stepBy, step, Ran, ended, running, outputOf}
 use Rattle.demands.specs.TakeOver.{Life, begun, stepped, taken-up, stepsLeft, EndsAsUncut}
@@ -76,7 +77,8 @@ pub ends : running message (stepsLeft afterRun) afterRun found ≡ ended (done 8
 unfolding message headerBytes running closing sameBytes step stepBy wellFormed startPlace slotOf chunkFrom chunkAt colourOf timesOf sizeOf repeated pixelsBrought pixelAfter placeAfter bytesOf moveBy move decoderStores decoderKeeps decoderReadsRgba
 ends = refl
 
--- The order of flushing at work: the first worker's output over a store, flushed after its first step, and then the record of that step's state saved.
+-- The order of flushing at work: the first worker's output over a store, flushed after its first step, and then the
+-- record of that step's state saved.
 pub stored : Stored message 4 afterRun cut lent [] afterRun (afterRun ∷ atStart ∷ [])
 unfolding message headerBytes starting startHeader startWanted headerOf afterChannels afterColorSpace headerFrom step stepBy wellFormed startPlace slotOf chunkFrom chunkAt colourOf timesOf sizeOf repeated pixelsBrought pixelAfter placeAfter bytesOf moveBy move decoderStores decoderKeeps decoderReadsRgba
 stored = store.saves (store.flushed (store.stepped (store.begun lent (lit< tt) refl) refl))
@@ -87,7 +89,7 @@ lost = as-shown cut (lent ∷ []) (afterRun ∷ atStart ∷ []) lent (List·Mem�
 
 -- and to take up that record then does not end as the uncut decode: the first pixel is lost
 pub saved-too-soon : EndsAsUncut message 4 lent (running message (stepsLeft afterRun) afterRun lent) → ⊥
-unfolding message headerBytes running closing sameBytes step stepBy wellFormed startPlace slotOf chunkFrom chunkAt colourOf timesOf sizeOf repeated pixelsBrought pixelAfter placeAfter bytesOf moveBy move decoderStores decoderKeeps decoderReadsRgba starting startHeader startWanted headerOf afterChannels afterColorSpace headerFrom reading readingInto withWanted withHeader wholeReading
+unfolding message headerBytes running closing sameBytes step stepBy wellFormed startPlace slotOf chunkFrom chunkAt colourOf timesOf sizeOf repeated pixelsBrought pixelAfter placeAfter bytesOf moveBy move decoderStores decoderKeeps decoderReadsRgba starting startHeader startWanted headerOf afterChannels afterColorSpace headerFrom reading readingInto afterWanted afterHeader wholeReading
 saved-too-soon e =
     let first : _≡_ {A = ℕ} 7 0 = ap (λ (r : Ran). getD (outputOf r) 0 0) (e .1) in
     omega arith

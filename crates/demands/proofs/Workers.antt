@@ -148,7 +148,8 @@ undisturbed m w o₀ o s a =
       ends = ends-as-uncut m w o₀ o s (a .on-course) (a .holds);
     }
 
--- in every order of the workers' steps, each worker finds the uncut decode's bytes before its pixel, and ends as the uncut decode
+-- in every order of the workers' steps, each worker finds the uncut decode's bytes before its pixel, and ends as the
+-- uncut decode
 pub workers :
     {m : List ℕ} {w : ℕ} {o₀ o : List ℕ} (left right : List State) (s : State) → Crew m w o₀ (left ++ (s ∷ right)) o
     → Undisturbed m w o₀ s o

@@ -22,7 +22,7 @@ use Rattle.header.specs.declared.Header.{Header}
 use Rattle.header.specs.declared.HeaderRead.the-variants as header-read
 use Rattle.header.specs.Header.{dimensionsFit, headerFrom, encodedRoom, defaultHeader, withChannels, withColorSpace}
 use Rattle.header.proofs.Laws.{channels-number}
-use Rattle.rules.specs.Encode.{streamOf, Encoding, encoded, notEncoded, nothingEncoded, encodingInto, withSpace, withCount, withDimensions, encoding}
+use Rattle.rules.specs.Encode.{streamOf, Encoding, encoded, notEncoded, nothingEncoded, encodingInto, afterSpace, afterCount, afterDimensions, encoding}
 use Rattle.demands.specs.Streams.{Wrote}
 
 refused-is-no-encode : {e : Error} {n : ℕ} → notEncoded e ≡ encoded n → ⊥
@@ -84,35 +84,35 @@ module _ (picture : List ℕ) (width height colorspace room size : ℕ) where
     -- with its colour space
     space-writes :
         (c : Channels) → channelsFrom quotient ≡ channels-read.Ok c → (read : ColorSpaceRead) → colorSpaceFrom colorspace ≡ read
-        → Writes (withSpace picture room (withChannels plain c) read)
-    unfolding withSpace
+        → Writes (afterSpace picture room (withChannels plain c) read)
+    unfolding afterSpace
     space-writes c counted (colorspace-read.Refused x) is e = absurd (refused-is-no-encode e)
     space-writes c counted (colorspace-read.Ok s) is e = into-writes c counted s is e
 
     -- with its channels
-    count-writes : (count : ChannelsRead) → channelsFrom quotient ≡ count → Writes (withCount picture room plain colorspace count)
-    unfolding withCount
+    count-writes : (count : ChannelsRead) → channelsFrom quotient ≡ count → Writes (afterCount picture room plain colorspace count)
+    unfolding afterCount
     count-writes (channels-read.Refused x) is e = absurd (refused-is-no-encode e)
     count-writes (channels-read.Ok c) is e = space-writes c is (colorSpaceFrom colorspace) refl e
 
   -- with its dimensions
-  dimensions-write : T (dimensionsFit width height) → Writes (withDimensions picture room colorspace (header-read.Ok plain))
-  unfolding withDimensions
+  dimensions-write : T (dimensionsFit width height) → Writes (afterDimensions picture room colorspace (header-read.Ok plain))
+  unfolding afterDimensions
   dimensions-write fit = go (eqb (length picture % (width * height)) 0) refl
     where
       go :
           (b : Bool) → eqb (length picture % (width * height)) 0 ≡ b
-          → Writes (cond b (withCount picture room plain colorspace (channelsFrom quotient)) (nothingEncoded (InvalidImageLength (length picture) width height)))
+          → Writes (cond b (afterCount picture room plain colorspace (channelsFrom quotient)) (nothingEncoded (InvalidImageLength (length picture) width height)))
       go true t e = count-writes fit (eqb-true _ _ t) (channelsFrom quotient) refl e
       go false t e = absurd (refused-is-no-encode e)
 
   -- whatever an encode that is accepted wrote is the stream
   pub encode-wrote : Writes (encoding picture width height colorspace room)
-  unfolding encoding headerFrom withDimensions
+  unfolding encoding headerFrom afterDimensions
   encode-wrote = go (dimensionsFit width height) refl
     where
       go :
           (b : Bool) → dimensionsFit width height ≡ b
-          → Writes (withDimensions picture room colorspace (cond b (header-read.Ok plain) (header-read.Refused (InvalidImageDimensions width height))))
+          → Writes (afterDimensions picture room colorspace (cond b (header-read.Ok plain) (header-read.Refused (InvalidImageDimensions width height))))
       go true t e = dimensions-write (rw t tt) e
       go false t e = absurd (refused-is-no-encode e)

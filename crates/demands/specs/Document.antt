@@ -11,7 +11,8 @@ use Rattle.rules.specs.Decode.{decoding}
 use Rattle.rules.specs.Trace.{ownChannels}
 use Rattle.rules.specs.Document.{documentReading, indexesFilled}
 
--- if no INDEX names a slot not yet filled, slot 0 of a 4-channel source excepted, the document's reading is the decoder's: its bytes and its answer
+-- if no INDEX names a slot not yet filled, slot 0 of a 4-channel source excepted, the document's reading is the
+-- decoder's: its bytes and its answer
 abbrev pub DocumentAgrees : List ℕ → Type 0
 DocumentAgrees m =
     (header : Header) (room size used : ℕ) → headerOf m ≡ header-read.Ok header

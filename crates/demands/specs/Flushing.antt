@@ -1,4 +1,5 @@
--- Beyond demand 3: a worker whose output lies in a store. A write shows at once and lasts only from the next flush on; a crash may lose or keep each one.
+-- Beyond demand 3: a worker whose output lies in a store. A write shows at once and lasts only from the next flush
+-- on; a crash may lose or keep each one.
 use mathlib.Core.List.{List, [], _∷_, List·Memᴰ}
 use mathlib.Core.Logic.{_⊎_}
 use mathlib.Core.Path.{_≡_}
@@ -12,15 +13,20 @@ use Rattle.demands.specs.TakeOver.{bytesBefore}
 abbrev pub Shown : List (List ℕ) → ℕ → ℕ → Type 0
 Shown outputs i byte = (x : List ℕ) × List·Memᴰ x outputs × (byte ≡ getD x i 0)
 
--- What a killed process, or a power cut, may leave of an output o, where `since` are the outputs that the store showed before o, back to the last flush:
--- each byte is one that stood there since that flush, in any mixture; at and after the pixels of all saved records it may be anything.
--- What is assumed of a store: it keeps the output's length, and a flushed byte that is written again comes out as before or as after, and as nothing else.
+-- What a killed process, or a power cut, may leave of an output o, where `since` are the outputs that the store
+-- showed before o, back to the last flush:
+-- each byte is one that stood there since that flush, in any mixture; at and after the pixels of all saved records it
+-- may be anything.
+-- What is assumed of a store: it keeps the output's length, and a flushed byte that is written again comes out as
+-- before or as after, and as nothing else.
 pub record Torn (o : List ℕ) (since : List (List ℕ)) (saved : List State) (o′ : List ℕ) : Type 0 where
   pub same-length : length o′ ≡ length o
   pub each : (i : ℕ) → Shown (o ∷ since) i (getD o′ i 0) ⊎ ((r : State) → List·Memᴰ r saved → bytesBefore r ≤ i)
 
--- A history of message m at wanted w over a store: the state; the output that the store shows; the output as the last take-up, or the start, found it;
--- the outputs shown before, back to the last flush; the state at that flush, which the worker remembers; the states whose records are saved for good.
+-- A history of message m at wanted w over a store: the state; the output that the store shows; the output as the last
+-- take-up, or the start, found it;
+-- the outputs shown before, back to the last flush; the state at that flush, which the worker remembers; the states
+-- whose records are saved for good.
 pub data Stored (m : List ℕ) (w : ℕ) : State → List ℕ → List ℕ → List (List ℕ) → State → List State → Type 0 where
   -- a start on any output, which lasts; to start anew needs no byte of it, so the start's record counts as saved
   begun :

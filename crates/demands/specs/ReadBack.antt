@@ -7,7 +7,8 @@ use Rattle.rules.specs.Reading.{Reading, done}
 use Rattle.rules.specs.Decode.{decoding}
 use Rattle.rules.specs.Document.{documentReading}
 
--- the reading of a picture's stream: accepted with the size of the picture and the length of the stream, and its bytes are the picture
+-- the reading of a picture's stream: accepted with the size of the picture and the length of the stream, and its
+-- bytes are the picture
 abbrev pub pictureRead : List ℕ → List ℕ → Reading
 pictureRead picture stream = record { answer = done (length picture) (length stream); bytes = picture }
 
@@ -16,7 +17,8 @@ pub record ReadBack (picture stream : List ℕ) (wanted : ℕ) : Type 0 where
   pub document-is : (room : ℕ) → length picture ≤ room → documentReading stream wanted room ≡ pictureRead picture stream
   pub decoder-is : (room : ℕ) → length picture ≤ room → decoding stream wanted room ≡ pictureRead picture stream
 
--- what is true of an encode that wrote `size` bytes: they are all of its bytes, they fit its room, and they are read back at the picture's channels
+-- what is true of an encode that wrote `size` bytes: they are all of its bytes, they fit its room, and they are read
+-- back at the picture's channels
 pub record Encoded (picture stream : List ℕ) (channels room size : ℕ) : Type 0 where
   pub all : size ≡ length stream
   pub fits : size ≤ room

@@ -18,7 +18,8 @@ pub record PictureOf (header : Header) (picture : List ℕ) : Type 0 where
   pub fit : T (dimensionsFit (header .width) (header .height))
   pub needed : length picture ≡ pixelCount header * channelsNumber (header .channels)
 
--- the strict check accepts the stream of a picture, with its header, as many chunks as the encoder chose, and all its bytes
+-- the strict check accepts the stream of a picture, with its header, as many chunks as the encoder chose, and all its
+-- bytes
 abbrev pub StrictAccepts : Header → List ℕ → Type 0
 StrictAccepts header picture =
     strict (streamOf header picture) ≡ accepted header (length (chunksOf header picture)) (length (streamOf header picture))
@@ -27,7 +28,8 @@ StrictAccepts header picture =
 abbrev pub KeepsFilled : Header → List ℕ → Type 0
 KeepsFilled header picture = T (indexesFilled (streamOf header picture))
 
--- what an encode that is accepted wrote: the stream of its picture under the header of its dimensions, its channels and its colour space, and how many bytes that is
+-- what an encode that is accepted wrote: the stream of its picture under the header of its dimensions, its channels
+-- and its colour space, and how many bytes that is
 pub record Wrote (picture stream : List ℕ) (width height colorspace room size : ℕ) : Type 0 where
   pub header : Header
   pub width-is : header .width ≡ width

@@ -1,4 +1,5 @@
--- The strict check against the decode: it accepts exactly if a decode accepts, no run is longer than the pixels left, and nothing follows the marker.
+-- The strict check against the decode: it accepts exactly if a decode accepts, no run is longer than the pixels left,
+-- and nothing follows the marker.
 use mathlib.Core.List.{List, []}
 use mathlib.Core.Path.{_≡_}
 use Prim.Native.Nat.{ℕ, _≤_}
@@ -27,8 +28,8 @@ pub record Passes (m : List ℕ) (header : Header) (chunks bytes : ℕ) : Type 0
   -- the chunks are those that the decoder reads
   pub counts : chunks ≡ chunkCount m
 
--- what a decode accepts, at any wanted channels and into any room, with no run past the image and nothing after the marker, the strict check
--- accepts, with the message's header and the chunks and the bytes of it
+-- what a decode accepts, at any wanted channels and into any room, with no run past the image and nothing after the
+-- marker, the strict check accepts, with the message's header and the chunks and the bytes of it
 abbrev pub MustPass : List ℕ → Type 0
 MustPass m =
     (wanted room size used : ℕ) → decoding m wanted room .answer ≡ done size used → T (runsFit m) → restOf m (done size used) ≡ []

@@ -12,8 +12,10 @@ use Rattle.rules.specs.Record.{recordBytes, readRecord}
 abbrev pub bytesBefore : State → ℕ
 bytesBefore s = s .place .pixel * s .wanted
 
--- A history of message m at wanted w: the state, the output now, and the output as the last take-up, or the start, found it.
--- No output is asked to be long enough, nor a take-up's to be as long as the last: into too few bytes steps and the uncut decode answer the same 7.
+-- A history of message m at wanted w: the state, the output now, and the output as the last take-up, or the start,
+-- found it.
+-- No output is asked to be long enough, nor a take-up's to be as long as the last: into too few bytes steps and the
+-- uncut decode answer the same 7.
 pub data Life (m : List ℕ) (w : ℕ) : State → List ℕ → List ℕ → Type 0 where
   -- a start on any output; the message's length fits 64 bits, which the type of a slice says by itself
   begun : {s : State} (o : List ℕ) → length m < 2 ^ 64 → starting m w ≡ started s → Life m w s o o
@@ -21,7 +23,8 @@ pub data Life (m : List ℕ) (w : ℕ) : State → List ℕ → List ℕ → Typ
   stepped :
       {s s′ : State} {o b bytes : List ℕ} → Life m w s o b → step s m (length o) ≡ more s′ bytes
       → Life m w s′ (steppedOver s bytes o) b
-  -- a take-up of the record written of s, however long ago, on any output that holds before s's pixel what the one of that moment held
+  -- a take-up of the record written of s, however long ago, on any output that holds before s's pixel what the one of
+  -- that moment held
   taken-up :
       {s s′ : State} {o b : List ℕ} → Life m w s o b → (o′ : List ℕ)
       → take (bytesBefore s) o′ ≡ take (bytesBefore s) o → readRecord (recordBytes s) ≡ started s′ → Life m w s′ o′ o′
@@ -30,8 +33,8 @@ pub data Life (m : List ℕ) (w : ℕ) : State → List ℕ → List ℕ → Typ
 abbrev pub stepsLeft : State → ℕ
 stepsLeft s = pixelCount (s .header) - s .place .pixel + 1
 
--- A run on an output that was b when it was taken up has ended as the uncut decode into b: with its answer, every byte that it writes,
--- and after them what b held.
+-- A run on an output that was b when it was taken up has ended as the uncut decode into b: with its answer, every
+-- byte that it writes, and after them what b held.
 abbrev pub EndsAsUncut : List ℕ → ℕ → List ℕ → Ran → Type 0
 EndsAsUncut m w b run =
     (last : State) × (run ≡ ended (decoding m w (length b) .answer) last (writtenOver (decoding m w (length b) .bytes) b))

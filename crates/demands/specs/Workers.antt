@@ -1,4 +1,5 @@
--- Beyond demand 3: any number of workers at once on one output that only their steps write, in any order of their steps, and with steps that stop inside.
+-- Beyond demand 3: any number of workers at once on one output that only their steps write, in any order of their
+-- steps, and with steps that stop inside.
 use mathlib.Core.List.{List, [], _∷_, _++_}
 use mathlib.Core.Logic.{_⊎_}
 use mathlib.Core.Path.{_≡_}
@@ -16,8 +17,9 @@ pub record Partly (o new o′ : List ℕ) : Type 0 where
   pub same-length : length o′ ≡ length o
   pub each : (i : ℕ) → (getD o′ i 0 ≡ getD o i 0) ⊎ (getD o′ i 0 ≡ getD new i 0)
 
--- The workers on message m at wanted w, and the output now, which was o₀ at first. A worker that stops, or dies, stays in the list
--- and steps no more; one that takes up an old record was in the list since that record was written, and stood still.
+-- The workers on message m at wanted w, and the output now, which was o₀ at first. A worker that stops, or dies,
+-- stays in the list and steps no more; one that takes up an old record was in the list since that record was written,
+-- and stood still.
 pub data Crew (m : List ℕ) (w : ℕ) (o₀ : List ℕ) : List State → List ℕ → Type 0 where
   -- no worker yet; the message's length fits 64 bits, which the type of a slice says by itself: nothing more is asked
   nobody : length m < 2 ^ 64 → Crew m w o₀ [] o₀
@@ -31,7 +33,8 @@ pub data Crew (m : List ℕ) (w : ℕ) (o₀ : List ℕ) : List State → List �
   steps :
       (left right : List State) (s : State) {s′ : State} {o bytes : List ℕ} → Crew m w o₀ (left ++ (s ∷ right)) o
       → step s m (length o) ≡ more s′ bytes → Crew m w o₀ (left ++ (s′ ∷ right)) (steppedOver s bytes o)
-  -- one of them stops inside a step and stands where it stood; it may make the step again, so steps may mix byte by byte
+  -- one of them stops inside a step and stands where it stood; it may make the step again, so steps may mix byte by
+  -- byte
   stops-inside :
       (left right : List State) (s : State) {s′ : State} {o bytes : List ℕ} (o′ : List ℕ) → Crew m w o₀ (left ++ (s ∷ right)) o
       → step s m (length o) ≡ more s′ bytes → Partly o (steppedOver s bytes o) o′ → Crew m w o₀ (left ++ (s ∷ right)) o′
@@ -44,7 +47,8 @@ pub record Undisturbed (m : List ℕ) (w : ℕ) (o₀ : List ℕ) (s : State) (o
   pub reaches : bytesBefore s ≤ length (decoding m w (length o₀) .bytes)
   -- and they stand in the output
   pub stand : take (bytesBefore s) o ≡ take (bytesBefore s) (decoding m w (length o₀) .bytes)
-  -- its pixel is not past the picture, and a step that goes on brings it further, so its own steps are at most the pixels missing plus one
+  -- its pixel is not past the picture, and a step that goes on brings it further, so its own steps are at most the
+  -- pixels missing plus one
   pub within : s .place .pixel ≤ pixelCount (s .header)
   pub further : (s′ : State) (bytes : List ℕ) → step s m (length o) ≡ more s′ bytes → s .place .pixel < s′ .place .pixel
   -- its end is the uncut decode's, with the right output

@@ -1,4 +1,5 @@
 -- The header: its fourteen bytes, its test with the order of its refusals, and the room that a picture may need.
+-- The order of refusals reads from the bottom up: the last definition of it makes the first test.
 use mathlib.Core.Bool.{Bool, cond, _&&_}
 use mathlib.Core.List.{List, [], _∷_, _++_}
 use Prim.Native.Nat.{ℕ, _+_, _-_, _*_, _/_, _%_, _^_, min}

@@ -1,4 +1,5 @@
--- What the proofs of `read` and `read_more` share: reading, in terms of a slice's length, first byte and rest; and what `group_below` requires.
+-- What the proofs of `read` and `read_more` share: reading, in terms of a slice's length, first byte and rest; and
+-- what `group_below` requires.
 use Prim.Native.Nat.{ℕ, zero, suc, _-_, _*_, _^_, _≤_}
 use mathlib.Core.Path.{_≡_, refl}
 use mathlib.Core.Bool.{cond}

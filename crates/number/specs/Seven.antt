@@ -1,4 +1,5 @@
--- Numbers in groups of seven bits, low group first, top bit set on all but the last byte, in shortest form, at most 2^64-1.
+-- Numbers in groups of seven bits, low group first, top bit set on all but the last byte, in shortest form, at most
+-- 2^64-1.
 use mathlib.Core.Bool.{cond}
 use mathlib.Core.List.{List, [], _∷_, _++_}
 use Prim.Native.Nat.{ℕ, zero, suc, _+_, _-_, _*_, _/_, _%_}
@@ -24,7 +25,8 @@ unfoldable pub groupBelow : ℕ → NumberRead → NumberRead
 groupBelow byte (read.Number value used) = read.Number (byte - 128 + 128 * value) (used + 1)
 groupBelow byte (read.Refused e) = read.Refused e
 
--- the bytes after the first, `more` and one at most: cut short is 1; a last byte 00 is not shortest, 9; a tenth byte other than 01 is 9
+-- the bytes after the first, `more` and one at most: cut short is 1; a last byte 00 is not shortest, 9; a tenth byte
+-- other than 01 is 9
 unfoldable pub readMore : ℕ → List ℕ → NumberRead
 readMore more [] = read.Refused UnexpectedBufferEnd
 readMore zero (byte ∷ rest) = cond (eqb byte 1) (read.Number 1 1) (read.Refused BadState)

@@ -193,7 +193,8 @@ host-left-behind {m} {w} {r} {o} host steps =
     let l = lives host in
     takes-over host (l .state) (l .reads) (hostOut m steps o (readRecord r)) (rw (l .reads) (run-keeps-before m steps (l .state) o))
 
--- a host that is cut off inside a run, after some steps and with any bytes of the next one written, may hand the same record in on what it left
+-- a host that is cut off inside a run, after some steps and with any bytes of the next one written, may hand the same
+-- record in on what it left
 pub host-left-inside :
     {m : List ℕ} {w : ℕ} {r o b o′ : List ℕ} → Host m w r o b → (s : State) → readRecord r ≡ started s
     → StoppedInside m s o o′ → Host m w r o′ o′

@@ -1,4 +1,5 @@
--- The order of flushing for a host that has only the exported calls, proved: what it saves after a flush survives a crash.
+-- The order of flushing for a host that has only the exported calls, proved: what it saves after a flush survives a
+-- crash.
 -- Assumes nothing.
 use mathlib.Core.Path.{_≡_, refl, _∙_, ap}
 use mathlib.Core.List.{List, List·Memᴰ}

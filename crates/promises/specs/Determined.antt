@@ -8,7 +8,8 @@ use borrow.Fn.Kinds.{PK, RK, Out, Dens, resT, endedOf}
 
 -- ps: the parameters; r: the result; `allows`: the contract
 module _ {n : ℕ} (ps : List (PK n)) (r : RK n) where
-  -- two results that it allows, values of the result's type, are the same by `same`, and each lent part holds the same at exit
+  -- two results that it allows, values of the result's type, are the same by `same`, and each lent part holds the
+  -- same at exit
   abbrev pub DeterminedBy : ((κs : Lfts n) → resT r κs .Denot → resT r κs .Denot → Type 0) → Out n ps r → Type 0
   DeterminedBy same allows =
       (κs : Lfts n) (a : Dens κs ps) (z z′ : resT r κs .Denot) (e e′ : Lasts (endedOf n ps r) κs a)

@@ -1,4 +1,5 @@
--- Demand 3 for a host that has only the exported functions and keeps the state as its record: the host's histories, and what holds of each.
+-- Demand 3 for a host that has only the exported functions and keeps the state as its record: the host's histories,
+-- and what holds of each.
 use mathlib.Core.List.{List, [], _∷_}
 use mathlib.Core.Path.{_≡_}
 use Prim.Native.Nat.{ℕ, _+_, _^_, _≤_, _<_}
@@ -23,9 +24,11 @@ returned figures = getD figures 0 0
 abbrev pub recordRoom : ℕ
 recordRoom = 290
 
--- A host's history of message m at wanted w: the record in its hands, the output now, and the output as the last take-up, or the start, found it.
+-- A host's history of message m at wanted w: the record in its hands, the output now, and the output as the last
+-- take-up, or the start, found it.
 pub data Host (m : List ℕ) (w : ℕ) : List ℕ → List ℕ → List ℕ → Type 0 where
-  -- pivotshade_start returned 0: the record is the first n bytes of the part lent for it; the message's length fits 64 bits, as a slice's does
+  -- pivotshade_start returned 0: the record is the first n bytes of the part lent for it; the message's length fits
+  -- 64 bits, as a slice's does
   starts :
       (o part : List ℕ) (n : ℕ) → length m < 2 ^ 64 → startedFigures (starting m w) part ≡ says 0 n
       → Host m w (take n (startedOver (starting m w) part)) o o
@@ -34,7 +37,8 @@ pub data Host (m : List ℕ) (w : ℕ) : List ℕ → List ℕ → List ℕ → 
       {r o b : List ℕ} → Host m w r o b → (steps : ℕ) (next : List ℕ) (n : ℕ)
       → hostFigures m steps o next (readRecord r) ≡ says 256 n
       → Host m w (take n (hostNext m steps o next (readRecord r))) (hostOut m steps o (readRecord r)) b
-  -- a record kept, however long ago, is handed in on any output that holds before its pixel what the output of that moment held
+  -- a record kept, however long ago, is handed in on any output that holds before its pixel what the output of that
+  -- moment held
   takes-over :
       {r o b : List ℕ} → Host m w r o b → (s : State) → readRecord r ≡ started s → (o′ : List ℕ)
       → take (bytesBefore s) o′ ≡ take (bytesBefore s) o → Host m w r o′ o′
@@ -66,7 +70,8 @@ pub record TakesOver (m : List ℕ) (w : ℕ) (r o b : List ℕ) : Type 0 where
       (steps : ℕ) (next : List ℕ) → stepsLeft state ≤ steps
       → returned (hostFigures m steps o next (readRecord r)) ≡ 256 → ⊥
 
--- what holds of a start with 290 bytes for its record: it returns 0, or ends as pivotshade_decode into any output, and leaves the part as it was
+-- what holds of a start with 290 bytes for its record: it returns 0, or ends as pivotshade_decode into any output,
+-- and leaves the part as it was
 pub record Starts (m : List ℕ) (w : ℕ) (part : List ℕ) : Type 0 where
   pub refuses-as-decode :
       (returned (startedFigures (starting m w) part) ≡ 0 → ⊥) → (o : List ℕ)

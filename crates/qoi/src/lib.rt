@@ -96,7 +96,8 @@ pub extern "C" fn pivotshade_start(
     }
 }
 
-// Takes up a record and does at most `steps` steps. 0 is the end, with the decode's figures; 256 is more to do, with the next record's length.
+// Takes up a record and does at most `steps` steps. 0 is the end, with the decode's figures; 256 is more to do, with
+// the next record's length.
 #[no_mangle]
 pub extern "C" fn pivotshade_run(
     message: &[u8],

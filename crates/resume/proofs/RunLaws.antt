@@ -1,4 +1,5 @@
--- Laws of a run: it is the walk over its chunks and then, where steps are left, the marker test; the walk may be handed a part of the output.
+-- Laws of a run: it is the walk over its chunks and then, where steps are left, the marker test; the walk may be
+-- handed a part of the output.
 -- Assumes nothing.
 use mathlib.Core.Path.{_≡_, refl, sym, _∙_, ap}
 use mathlib.Core.Bool.{Bool, true, false, cond}

@@ -9,7 +9,7 @@ use Rattle.number.specs.Seven.{readNumber}
 use Rattle.header.specs.declared.Header.{Header}
 use Rattle.rules.specs.Reading.{sizeWanted}
 use Rattle.rules.specs.Step.{State, wellFormed, Started}
-use Rattle.rules.specs.Record.{withNumber, readSlots}
+use Rattle.rules.specs.Record.{afterNumber, readSlots}
 use Rattle.resume.specs.declared.Decoder.{Decoder}
 use Rattle.resume.specs.declared.Started as code
 use Rattle.resume.specs.State.{stateOf, startAnswer, stateAfter}
@@ -21,11 +21,11 @@ Answers s old r = (r .answer ≡ startAnswer s) × (stateOf (r .decoder) ≡ sta
 -- a record from its pixel position on
 abbrev pub fromPixel : Header → ℕ → ℕ → List ℕ → Started
 fromPixel header wanted at bytes =
-    withNumber bytes (readNumber bytes) (λ pixel rest. readSlots header wanted at pixel rest)
+    afterNumber bytes (readNumber bytes) (λ pixel rest. readSlots header wanted at pixel rest)
 
 -- a record from its byte position on
 abbrev pub fromAt : Header → ℕ → List ℕ → Started
-fromAt header wanted bytes = withNumber bytes (readNumber bytes) (fromPixel header wanted)
+fromAt header wanted bytes = afterNumber bytes (readNumber bytes) (fromPixel header wanted)
 
 -- wanted is 3 or 4
 abbrev pub WantedFits : ℕ → Type 0

@@ -53,7 +53,8 @@ pub fn run(decoder: Decoder, message: &[u8], out: &mut [u8], steps: u64) -> Step
     go_on(decoder, message, out, steps as usize, required)
 }
 
-// The chunks, into the part of the output that starts at the pixel position, so that what stands before it cannot be harmed.
+// The chunks, into the part of the output that starts at the pixel position, so that what stands before it cannot be
+// harmed.
 fn go_on(decoder: Decoder, message: &[u8], out: &mut [u8], steps: usize, required: usize) -> Stepped
     requires { ⌜ Ready (stateOf decoder) (now message) (now out) required ⌝ }
     ensures { λ r. ⌜ ranOf r (now (out .exit)) ≡ running (now (message .entry)) steps (stateOf decoder) (now (out .entry)) ⌝ }

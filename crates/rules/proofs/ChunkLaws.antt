@@ -1,4 +1,5 @@
--- The chunk table row by row, over a part that is known by its length and its bytes; and what every chunk that is found keeps to.
+-- The chunk table row by row, over a part that is known by its length and its bytes; and what every chunk that is
+-- found keeps to.
 -- Assumes nothing.
 use mathlib.Core.Path.{_≡_, refl}
 use mathlib.Core.Bool.{Bool, true, false, cond}

@@ -1,4 +1,5 @@
--- Laws of the encoder's chunks: each is read back from its bytes, whatever follows; a chosen one brings its pixel; and how many bytes there are.
+-- Laws of the encoder's chunks: each is read back from its bytes, whatever follows; a chosen one brings its pixel;
+-- and how many bytes there are.
 -- Assumes nothing.
 use mathlib.Core.Path.{_≡_, refl, sym, _∙_, ap}
 use mathlib.Core.Bool.{Bool, true, false, cond, _&&_, _||_}
@@ -164,7 +165,8 @@ within-fits below above x small ha hb e = go (ltb x 128) refl e
         let k = ltb-false x 128 l in
         omega arith
 
--- a chunk that brings a pixel after another: it can be written, stores, brings the pixel once, and is no longer than a pixel and one byte
+-- a chunk that brings a pixel after another: it can be written, stores, brings the pixel once, and is no longer than
+-- a pixel and one byte
 pub record Chosen (n : ℕ) (previous p : Pixel) (k : Chunk) : Type 0 where
   pub writable : (readsRgba : Bool) → ((n ≡ 3 → ⊥) → readsRgba ≡ true) → Writable readsRgba k
   pub brings : (slots : List Pixel) → colourOf slots previous k ≡ p

@@ -1,4 +1,5 @@
--- Laws of parts of a list, and of bytes put into an output at a place: what stands before and after them, and how many there are.
+-- Laws of parts of a list, and of bytes put into an output at a place: what stands before and after them, and how
+-- many there are.
 -- Assumes nothing.
 use mathlib.Core.Path.{_≡_, sym, _∙_, ap}
 use mathlib.Core.List.{List, [], _++_, append-assoc}

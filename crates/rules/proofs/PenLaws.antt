@@ -1,4 +1,5 @@
--- The encoder pixel by pixel: the kinds of chunk that it chooses and the pen after them; each can be written, and how many bytes they take.
+-- The encoder pixel by pixel: the kinds of chunk that it chooses and the pen after them; each can be written, and how
+-- many bytes they take.
 -- Assumes nothing.
 use mathlib.Core.Path.{_≡_, refl}
 use mathlib.Core.Bool.{Bool, true, false, cond, _&&_}

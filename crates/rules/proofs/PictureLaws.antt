@@ -1,4 +1,5 @@
--- Laws of a picture: its pixels are whole and their bytes are the picture; its chunks can be written, and its stream fits the room that is asked for.
+-- Laws of a picture: its pixels are whole and their bytes are the picture; its chunks can be written, and its stream
+-- fits the room that is asked for.
 -- Assumes nothing.
 use mathlib.Core.Path.{_≡_, refl, _∙_, ap}
 use mathlib.Core.Bool.{Bool, true}
@@ -104,7 +105,8 @@ writable-at : (b : Bool) (before : List Chunk) (k : Chunk) (later : List Chunk) 
 writable-at b [] k later each = each .0
 writable-at b (x ∷ xs) k later each = writable-at b xs k later (each .1)
 
--- so each is read back, whatever follows, where ff is read in any source as by a reader to which only four channels have RGBA
+-- so each is read back, whatever follows, where ff is read in any source as by a reader to which only four channels
+-- have RGBA
 pub picture-chunk-read-back :
     (header : Header) (picture : List ℕ) → AllBytes picture → (b : Bool) → ((channelsNumber (header .channels) ≡ 3 → ⊥) → b ≡ true)
     → (before : List Chunk) (k : Chunk) (later : List Chunk) → chunksOf header picture ≡ before ++ (k ∷ later)

@@ -1,4 +1,5 @@
--- Laws of a place under the decoder's rules: pixels stay four bytes and slots 64, and a chunk writes its pixels' bytes, from its pixel to the next.
+-- Laws of a place under the decoder's rules: pixels stay four bytes and slots 64, and a chunk writes its pixels'
+-- bytes, from its pixel to the next.
 -- Assumes nothing.
 use mathlib.Core.Path.{_≡_, refl, _∙_, ap}
 use mathlib.Core.Bool.{Bool, true, false, cond}

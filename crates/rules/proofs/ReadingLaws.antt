@@ -1,4 +1,5 @@
--- Laws of a reading, over every way: each move brings a pixel, so the end comes within the pixels plus one moves, and no more is written than the picture.
+-- Laws of a reading, over every way: each move brings a pixel, so the end comes within the pixels plus one moves, and
+-- no more is written than the picture.
 -- Assumes nothing.
 use mathlib.Core.Path.{_≡_, refl, ap, _∙_}
 use mathlib.Core.Bool.{Bool, true, false, cond}
@@ -15,7 +16,7 @@ use Rattle.pixel.specs.Types.{channelsNumber}
 use Rattle.rules.specs.Chunk.{Chunk, Found, chunkAt, timesOf}
 use Rattle.rules.proofs.ChunkLaws.{Sound, SoundFound, nothing, something, sound-found}
 use Rattle.rules.proofs.PastingLaws.{repeated-length}
-use Rattle.rules.specs.Reading.{Way, Place, Answer, Move, Reading, more, end, ended, after, remaining, playedAfter, readOn, playOn, repeated, closing, sizeWanted, pixelsBrought, pixelAfter, placeAfter, bytesOf, moveBy, move, played, reading}
+use Rattle.rules.specs.Reading.{Way, Place, Answer, Move, Reading, more, end, after, remaining, readOn, repeated, closing, sizeWanted, pixelsBrought, pixelAfter, placeAfter, bytesOf, moveBy, move, reading}
 
 -- bytes written n times over are at most n times their bound
 repeated-size : (n : ℕ) (bytes : List ℕ) {bound : ℕ} → length bytes ≤ bound → length (repeated n bytes) ≤ n * bound
@@ -93,23 +94,6 @@ module _ (way : Way) (header : Header) (wanted : ℕ) (message : List ℕ) where
       → move way header wanted message place ≡ end (closing (sizeWanted header wanted) message (place .at))
   unfolding move
   moved-last place none = rw (le-ltb (place .pixel) (pixelCount header) none)
-
-  -- the end comes within the pixels missing plus one moves, and is the reading's
-  pub reading-ends :
-      (n : ℕ) (place : Place) → pixelCount header ≤ place .pixel + n
-      → played way header wanted message (suc n) place ≡ ended (reading way header wanted message n place)
-  unfolding played reading
-  reading-ends zero place none = rw (played, moved-last place (omega arith))
-  reading-ends (suc n) place few = go (reading-ends n) (move way header wanted message place) (moved place)
-    where
-      go :
-          ((next : Place) → pixelCount header ≤ next .pixel + n → played way header wanted message (suc n) next ≡ ended (reading way header wanted message n next))
-          → (m : Move) → Moved place m
-          → playOn (played way header wanted message (suc n)) m ≡ ended (readOn (reading way header wanted message n) m)
-      go ih m (at-end answer) = refl
-      go ih m (by-chunk k sound missing) =
-          ap (playedAfter (bytesOf way header wanted place k))
-          (ih (placeAfter way header wanted place k) (omega (arith, advances way header wanted place k (sound .once) missing)))
 
   -- a reading is the same with any fuel that is enough
   reading-enough :

@@ -1,4 +1,5 @@
--- Laws of a record that is accepted: it is written again as the same bytes, its state is well formed, and it has at most 290 bytes.
+-- Laws of a record that is accepted: it is written again as the same bytes, its state is well formed, and it has at
+-- most 290 bytes.
 -- Assumes nothing.
 use mathlib.Core.Path.{_≡_, refl, sym, _∙_, ap}
 use mathlib.Core.Bool.{Bool, true, false, cond}
@@ -26,7 +27,7 @@ use Rattle.number.proofs.Laws.{read-written-back}
 use Rattle.header.proofs.Laws.{channels-number, header-written-back}
 use Rattle.rules.specs.Encode.{pixelFrom, pixelsFrom}
 use Rattle.rules.specs.Step.{State, wellFormed, Started, started, notStarted}
-use Rattle.rules.specs.Record.{pixelsBytes, recordBytes, withNumber, readEnd, readSlots, readPositions, readWanted, readRecord}
+use Rattle.rules.specs.Record.{pixelsBytes, recordBytes, afterNumber, readEnd, readSlots, readPositions, readWanted, readRecord}
 use Rattle.rules.proofs.RecordLaws.{refused-is-no-start, sized}
 use Rattle.rules.proofs.PictureLaws.{written, every-byte, pixels-written}
 
@@ -66,7 +67,8 @@ module _ (s : State) where
       let q = passed (eqb left 0) _ _ (well .1) in
       (eqb-true _ _ (q .0), cc (q .1), rw (well .0) tt)
 
-  -- what was read so far, written, and the bytes that follow are the record; its state is well formed, and it has at most 290 bytes
+  -- what was read so far, written, and the bytes that follow are the record; its state is well formed, and it has at
+  -- most 290 bytes
   record Again (bytes : List ℕ) : Type 0 where
     same : recordBytes s ≡ bytes
     well : T (wellFormed s)
@@ -98,9 +100,9 @@ module _ (s : State) where
   -- a number that is read is written back before what follows it
   number-back :
       (bytes : List ℕ) → AllBytes bytes → (read : NumberRead) → readNumber bytes ≡ read → (next : ℕ → List ℕ → Started)
-      → withNumber bytes read next ≡ started s → (value : ℕ) × (rest : List ℕ)
+      → afterNumber bytes read next ≡ started s → (value : ℕ) × (rest : List ℕ)
       × AllBytes rest × (sevenBits value ++ rest ≡ bytes) × (next value rest ≡ started s)
-  unfolding withNumber
+  unfolding afterNumber
   number-back bytes are (number-read.Refused e) is next p = absurd (refused-is-no-start p)
   number-back bytes are (number-read.Number value used) is next p =
       let back : sevenBits value ++ drop used bytes ≡ bytes =

@@ -22,7 +22,7 @@ use Rattle.number.proofs.Laws.{read-written, rest-after-written, length-at-leas
 use Rattle.header.proofs.Laws.{is-true, both, pixels-small, header-read-back, header-length}
 use Rattle.rules.specs.Encode.{pixelFrom, pixelsFrom}
 use Rattle.rules.specs.Step.{State, Typed, headerPasses, wantedPasses, atPasses, pixelPasses, alphaPasses, wellFormed, started, notStarted}
-use Rattle.rules.specs.Record.{pixelsBytes, recordBytes, withNumber, readEnd, readSlots, readPositions, readWanted, readRecord}
+use Rattle.rules.specs.Record.{pixelsBytes, recordBytes, afterNumber, readEnd, readSlots, readPositions, readWanted, readRecord}
 
 -- a list of four is read back as a pixel, whatever follows
 four-read : (bytes rest : List ℕ) → length bytes ≡ 4 → pixelFrom 4 (bytes ++ rest) ≡ record { rgba = bytes }
@@ -165,14 +165,14 @@ module _ (s : State) (typed : Typed s) (well : T (wellFormed s)) where
   positions-read : (c : Channels) → channelsNumber c ≡ s .wanted →
       readPositions (s .header) (channels-read.Ok c)
       (sevenBits (s .place .at) ++ (sevenBits (s .place .pixel) ++ (s .place .current .rgba ++ pixelsBytes (s .place .slots)))) ≡ started s
-  unfolding readPositions withNumber
+  unfolding readPositions afterNumber
   positions-read c same =
       rw (read-written (s .place .at) _ (typed .at-fits), rest-after-written (s .place .at), read-written (s .place .pixel) _ (omega (arith, pixel-small s well)), rest-after-written (s .place .pixel), same)
       slots-read
 
   -- reading a written record gives the same state
   pub record-read-back : readRecord (recordBytes s) ≡ started s
-  unfolding readRecord recordBytes readWanted withNumber
+  unfolding readRecord recordBytes readWanted afterNumber
   record-read-back =
       let count = wanted-channels (s .wanted) (formed s well .wanted-passes) in
       rw (header-read-back (s .header) _ (typed .width-fits) (typed .height-fits) (formed s well .header-passes), drop-at (headerBytes (s .header)) _ 14 (header-length (s .header)), read-written (s .wanted) _ (omega (arith, wanted-small s well)), rest-after-written (s .wanted), count .1)

@@ -1,4 +1,5 @@
--- Laws of steps, of every state: what kinds of step there are, that a chunk leads from a well-formed state to one, and when steps are enough.
+-- Laws of steps, of every state: what kinds of step there are, that a chunk leads from a well-formed state to one,
+-- and when steps are enough.
 -- Assumes nothing.
 use mathlib.Core.Path.{_≡_, refl}
 use mathlib.Core.Bool.{Bool, true, false, cond, not, _||_}

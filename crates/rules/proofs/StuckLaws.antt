@@ -1,4 +1,5 @@
--- Laws of a first byte ff: where it is read it is never stuck, where it is not it is never RGBA, and a reading that meets a stuck one is refused.
+-- Laws of a first byte ff: where it is read it is never stuck, where it is not it is never RGBA, and a reading that
+-- meets a stuck one is refused.
 -- Assumes nothing.
 use mathlib.Core.Path.{_≡_, refl, sym, _∙_}
 use mathlib.Core.Bool.{Bool, true, false, cond, not}

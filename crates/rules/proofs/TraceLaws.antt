@@ -17,7 +17,7 @@ use Rattle.header.specs.declared.HeaderRead.the-variants as header-read
 use Rattle.header.specs.Header.{pixelCount, headerOf}
 use Rattle.header.proofs.Laws.{channels-read-back}
 use Rattle.rules.specs.Chunk.{Found, cut, chunk, chunkAt}
-use Rattle.rules.specs.Reading.{Way, Place, done, refused, end, readOn, closing, startPlace, sizeWanted, placeAfter, bytesOf, moveBy, move, reading, remaining, readingInto, withWanted, withHeader, wholeReading}
+use Rattle.rules.specs.Reading.{Way, Place, done, refused, end, readOn, closing, startPlace, sizeWanted, placeAfter, bytesOf, moveBy, move, reading, remaining, readingInto, afterWanted, afterHeader, wholeReading}
 use Rattle.rules.specs.Decode.{decoder, decoderReadsRgba, decoding}
 use Rattle.rules.specs.Trace.{Visit, ownChannels, visitsOn, chunkDue, visits, headerTrace, trace}
 
@@ -29,7 +29,7 @@ refused-is-not-done p = let z : _≡_ {A = ℕ} 0 1 = cc in omega arith
 pub whole-is :
     (way : Way) (m : List ℕ) (header : Header) (c : Channels) (room : ℕ) → headerOf m ≡ header-read.Ok header
     → wholeReading way m (channelsNumber c) room ≡ readingInto way header (channelsNumber c) m room
-unfolding wholeReading withHeader withWanted
+unfolding wholeReading afterHeader afterWanted
 whole-is way m header c room reads = rw (reads, channels-read-back c)
 
 -- the chunks of a message whose header is known

@@ -13,13 +13,13 @@ use Rattle.number.specs.Seven.{sevenBitsOf, sevenBits, groupBelow, readMore, re
 use Rattle.header.specs.declared.Header.{Header}
 use Rattle.header.specs.Header.{headerBytes, headerFrom, afterColorSpace, afterChannels, headerOf}
 use Rattle.rules.specs.Chunk.{chunkFrom, chunkAt, colourOf, timesOf, sizeOf}
-use Rattle.rules.specs.Reading.{Reading, marker, sameBytes, repeated, closing, startPlace, pixelsBrought, pixelAfter, placeAfter, bytesOf, moveBy, move, reading, readingInto, withWanted, withHeader, wholeReading}
+use Rattle.rules.specs.Reading.{Reading, marker, sameBytes, repeated, closing, startPlace, pixelsBrought, pixelAfter, placeAfter, bytesOf, moveBy, move, reading, readingInto, afterWanted, afterHeader, wholeReading}
 use Rattle.rules.specs.Decode.{decoderStores, decoderKeeps, decoderReadsRgba, decoding, writtenOver, restOf}
 use Rattle.rules.specs.Trace.{Visit, visitsOn, chunkDue, visits, headerTrace, trace}
 use Rattle.rules.specs.Document.{documentReading, namesFilled, filledAfter, filledIn, indexesFilled}
-use Rattle.rules.specs.Encode.{EncodeAnswer, encoded, notEncoded, Encoding, fitsDiff, fitsLuma, diffChunk, lumaChunk, colourChunk, startPen, runEnded, slotHolds, differingChunk, pixelChunks, penAfter, chunksFrom, chunkBytes, chunksBytes, pixelFrom, pixelsFrom, chunksOf, streamOf, encodingInto, withSpace, withCount, withDimensions, encoding}
+use Rattle.rules.specs.Encode.{EncodeAnswer, encoded, notEncoded, Encoding, fitsDiff, fitsLuma, diffChunk, lumaChunk, colourChunk, startPen, runEnded, slotHolds, differingChunk, pixelChunks, penAfter, chunksFrom, chunkBytes, chunksBytes, pixelFrom, pixelsFrom, chunksOf, streamOf, encodingInto, afterSpace, afterCount, afterDimensions, encoding}
 use Rattle.rules.specs.Step.{State, wellFormed, Started, started, notStarted, startWanted, startHeader, starting, Step, stepBy, step, steppedOver, Ran, going, ended, running}
-use Rattle.rules.specs.Record.{pixelsBytes, recordBytes, recording, recordedOver, withNumber, readEnd, readSlots, readPositions, readWanted, readRecord}
+use Rattle.rules.specs.Record.{pixelsBytes, recordBytes, recording, recordedOver, afterNumber, readEnd, readSlots, readPositions, readWanted, readRecord}
 use Rattle.rules.specs.Strict.{StrictAnswer, strictClosed, strictClosing, strictCounted, strictBy, strictMove, strictFrom, strictHeader, strict, runsFitIn, runsFit, chunkCount}
 use Rattle.rules.specs.Figures.{headerFigures, answerFigures, encodeFigures, strictFigures, numberFigures, startFigures, recordFigures, stepFigures}
 
@@ -206,7 +206,8 @@ startIs figures bytes (notStarted e) = sameBytes (startFigures (notStarted e)) f
 startIs figures bytes (started s) =
     sameBytes (startFigures (started s)) figures && sameBytes (recordBytes s) bytes
 
--- whether a strict answer is this one: width, height, channels, colour space, chunks, bytes; its figures are the last two
+-- whether a strict answer is this one: width, height, channels, colour space, chunks, bytes; its figures are the last
+-- two
 strictIs : List ℕ → StrictAnswer → Bool
 strictIs figures (StrictAnswer.accepted h chunks bytes) =
     sameBytes (0 ∷ h .width ∷ h .height ∷ channelsNumber (h .channels) ∷ colorSpaceNumber (h .colorspace) ∷ chunks ∷ bytes ∷ []) figures
@@ -223,11 +224,11 @@ unfoldable pub holds : Case → Bool
 unfolding sameTest stateOf stateAfter afterRun resumed checkpointed begun encodedSize startIs strictIs outputAfter slotOf
     sevenBitsOf sevenBits groupBelow readMore readNumber headerBytes headerFrom afterColorSpace afterChannels headerOf
     chunkFrom chunkAt colourOf timesOf sizeOf sameBytes repeated closing startPlace pixelsBrought pixelAfter
-    placeAfter bytesOf moveBy move reading readingInto withWanted withHeader wholeReading decoderStores decoderKeeps
+    placeAfter bytesOf moveBy move reading readingInto afterWanted afterHeader wholeReading decoderStores decoderKeeps
     decoderReadsRgba fitsDiff fitsLuma diffChunk lumaChunk colourChunk startPen runEnded slotHolds differingChunk
     pixelChunks penAfter chunksFrom chunkBytes chunksBytes pixelFrom pixelsFrom chunksOf streamOf encodingInto
-    withSpace withCount withDimensions encoding wellFormed startWanted startHeader starting stepBy step running
-    pixelsBytes recordBytes recording recordedOver restOf withNumber readEnd readSlots readPositions readWanted
+    afterSpace afterCount afterDimensions encoding wellFormed startWanted startHeader starting stepBy step running
+    pixelsBytes recordBytes recording recordedOver restOf afterNumber readEnd readSlots readPositions readWanted
     readRecord strictClosed strictClosing strictCounted strictBy strictMove strictFrom strictHeader strict runsFitIn
     namesFilled filledAfter chunkDue indexesFilled visitsOn visits headerTrace trace filledIn
 holds (streams width height channels colorspace picture stream) =

@@ -1,4 +1,5 @@
--- The decoder's rules, the Rust's: which chunks store, what is kept of alpha, when ff is read; the uncut decode; the rest of a message.
+-- The decoder's rules, the Rust's: which chunks store, what is kept of alpha, when ff is read; the uncut decode; the
+-- rest of a message.
 use mathlib.Core.Bool.{Bool, true, false, cond}
 use mathlib.Core.List.{List, [], _++_}
 use Prim.Native.Nat.{ℕ}
@@ -19,7 +20,8 @@ decoderStores (RGB r g b) = true
 decoderStores (RGBA r g b a) = true
 decoderStores Stuck = true
 
--- with wanted channels 3 the pixel's fourth byte is 255 after every chunk, so slots are found and stored with it; with 4, alpha is as it came
+-- with wanted channels 3 the pixel's fourth byte is 255 after every chunk, so slots are found and stored with it;
+-- with 4, alpha is as it came
 unfoldable pub decoderKeeps : ℕ → Pixel → Pixel
 decoderKeeps wanted p = cond (eqb wanted 3) (withAlpha p 255) p
 

@@ -1,4 +1,5 @@
--- The document's decoder, from the QOI Specification 1.0: the three points on which it is not the decoder of `Decode`; and the slots that are filled.
+-- The document's decoder, from the QOI Specification 1.0: the three points on which it is not the decoder of
+-- `Decode`; and the slots that are filled.
 use mathlib.Core.Bool.{Bool, true, false, cond, _&&_, _||_}
 use mathlib.Core.List.{List, [], _∷_}
 use Prim.Native.Nat.{ℕ}
@@ -27,7 +28,8 @@ documentReadsRgba channels = true
 abbrev pub document : Way
 document = record { stores = documentStores; keeps = documentKeeps; readsRgba = documentReadsRgba }
 
--- the document's reading of a message, written out with the wanted channels; the header's tests, the pixel limit and the marker test are the decoder's, runs are clipped and bytes after the marker ignored
+-- the document's reading of a message, written out with the wanted channels; the header's tests, the pixel limit and
+-- the marker test are the decoder's, runs are clipped and bytes after the marker ignored
 abbrev pub documentReading : List ℕ → ℕ → ℕ → Reading
 documentReading message wanted room = wholeReading document message wanted room
 

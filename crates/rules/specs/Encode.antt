@@ -1,4 +1,6 @@
--- The encoder's rules: the chunks that it chooses, how they are written, the stream of a picture, and the order of the refusals.
+-- The encoder's rules: the chunks that it chooses, how they are written, the stream of a picture, and the order of
+-- the refusals.
+-- The order of refusals reads from the bottom up: the last definition of it makes the first test.
 use mathlib.Core.Bool.{Bool, true, false, cond, _&&_, _||_}
 use mathlib.Core.List.{List, [], _∷_, _++_}
 use Prim.Native.Nat.{ℕ, zero, suc, _+_, _-_, _*_, _/_, _%_}
@@ -49,7 +51,8 @@ colourChunk previous p =
     (cond (fitsLuma r g b) (lumaChunk r g b) (RGB (red p) (green p) (blue p))))
     (RGBA (red p) (green p) (blue p) (alpha p))
 
--- what the encoder remembers; `differed`: some earlier pixel differed from its predecessor, the first from the start pixel
+-- what the encoder remembers; `differed`: some earlier pixel differed from its predecessor, the first from the start
+-- pixel
 pub record Pen : Type 0 where
   pub slots : List Pixel
   pub previous : Pixel
@@ -60,7 +63,8 @@ pub record Pen : Type 0 where
 unfoldable pub startPen : Pen
 startPen = record { slots = replicate 64 clearPixel; previous = startPixel; run = 0; differed = false }
 
--- when another pixel ends a run: a run of 1 is INDEX of the repeated pixel's slot if some earlier pixel differed; otherwise RUN
+-- when another pixel ends a run: a run of 1 is INDEX of the repeated pixel's slot if some earlier pixel differed;
+-- otherwise RUN
 unfoldable pub runEnded : Pen → List Chunk
 runEnded pen =
     cond (eqb (pen .run) 0) []
@@ -163,26 +167,26 @@ module _ (picture : List ℕ) (room : ℕ) where
       (record { answer = encoded (length (streamOf header picture)); bytes = streamOf header picture })
 
   -- then 3 for a colour space above 1
-  unfoldable pub withSpace : Header → ColorSpaceRead → Encoding
-  withSpace header (colorspace-read.Refused e) = nothingEncoded e
-  withSpace header (colorspace-read.Ok colorspace) = encodingInto (withColorSpace header colorspace)
+  unfoldable pub afterSpace : Header → ColorSpaceRead → Encoding
+  afterSpace header (colorspace-read.Refused e) = nothingEncoded e
+  afterSpace header (colorspace-read.Ok colorspace) = encodingInto (withColorSpace header colorspace)
 
   -- then 2, carrying the quotient or 255 if larger
-  unfoldable pub withCount : Header → ℕ → ChannelsRead → Encoding
-  withCount header colorspace (channels-read.Refused e) = nothingEncoded e
-  withCount header colorspace (channels-read.Ok channels) =
-      withSpace (withChannels header channels) (colorSpaceFrom colorspace)
+  unfoldable pub afterCount : Header → ℕ → ChannelsRead → Encoding
+  afterCount header colorspace (channels-read.Refused e) = nothingEncoded e
+  afterCount header colorspace (channels-read.Ok channels) =
+      afterSpace (withChannels header channels) (colorSpaceFrom colorspace)
 
   -- then 6 if the length is not a multiple of the pixels
-  unfoldable pub withDimensions : ℕ → HeaderRead → Encoding
-  withDimensions colorspace (header-read.Refused e) = nothingEncoded e
-  withDimensions colorspace (header-read.Ok header) =
+  unfoldable pub afterDimensions : ℕ → HeaderRead → Encoding
+  afterDimensions colorspace (header-read.Refused e) = nothingEncoded e
+  afterDimensions colorspace (header-read.Ok header) =
       cond (eqb (length picture % pixelCount header) 0)
-      (withCount header colorspace (channelsFrom (length picture / pixelCount header)))
+      (afterCount header colorspace (channelsFrom (length picture / pixelCount header)))
       (nothingEncoded (InvalidImageLength (length picture) (header .width) (header .height)))
 
 -- encoding a picture of these dimensions and this colour space into `room` bytes: 5, 6, 2, 3, 7
 unfoldable pub encoding : List ℕ → ℕ → ℕ → ℕ → ℕ → Encoding
 encoding picture width height colorspace room =
-    withDimensions picture room colorspace
+    afterDimensions picture room colorspace
     (headerFrom width height (defaultHeader .channels) (defaultHeader .colorspace))

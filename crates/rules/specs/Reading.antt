@@ -1,4 +1,5 @@
 -- Reading a message chunk by chunk, over a `Way`: the points on which the decoder's rules and the document's differ.
+-- The order of refusals reads from the bottom up: the last definition of it makes the first test.
 use mathlib.Core.Bool.{Bool, true, false, cond, _&&_}
 use mathlib.Core.List.{List, [], _∷_, _++_}
 use Prim.Native.Nat.{ℕ, zero, suc, _+_, _-_, _*_, min}
@@ -48,11 +49,6 @@ pub record Reading : Type 0 where
   pub answer : Answer
   pub bytes : List ℕ
 
--- some moves: where they lead and what they wrote, or the end
-pub data Played : Type 0 where
-  going : Place → List ℕ → Played
-  ended : Reading → Played
-
 -- the end, with nothing written
 abbrev pub silent : Answer → Reading
 silent answer = record { answer = answer; bytes = [] }
@@ -65,16 +61,6 @@ after bytes r = record { answer = r .answer; bytes = bytes ++ r .bytes }
 abbrev pub readOn : (Place → Reading) → Move → Reading
 readOn next (more place bytes) = after bytes (next place)
 readOn next (end answer) = silent answer
-
--- more bytes written before some moves
-abbrev pub playedAfter : List ℕ → Played → Played
-playedAfter bytes (going place written) = going place (bytes ++ written)
-playedAfter bytes (ended r) = ended (after bytes r)
-
--- a move, and then those that follow it
-abbrev pub playOn : (Place → Played) → Move → Played
-playOn next (more place bytes) = playedAfter bytes (next place)
-playOn next (end answer) = ended (silent answer)
 
 -- seven 00 bytes and one 01
 abbrev pub marker : List ℕ
@@ -147,11 +133,6 @@ module _ (way : Way) (header : Header) (wanted : ℕ) (message : List ℕ) where
       (moveBy way header wanted place (chunkAt (way .readsRgba (channelsNumber (header .channels))) (drop (place .at) message)))
       (end (closing (sizeWanted header wanted) message (place .at)))
 
-  -- at most n moves
-  unfoldable pub played : ℕ → Place → Played
-  played zero place = going place []
-  played (suc n) place = playOn (played n) (move place)
-
   -- moves until the end; each brings a pixel, so with none left only the marker test is to do
   unfoldable pub reading : ℕ → Place → Reading
   reading zero place = silent (closing (sizeWanted header wanted) message (place .at))
@@ -169,15 +150,15 @@ module _ (way : Way) (header : Header) (wanted : ℕ) (message : List ℕ) where
 
 module _ (way : Way) (message : List ℕ) (room : ℕ) where
   -- 2 for wanted other than 3 or 4
-  unfoldable pub withWanted : Header → ChannelsRead → Reading
-  withWanted header (channels-read.Refused e) = silent (refused e)
-  withWanted header (channels-read.Ok channels) = readingInto way header (channelsNumber channels) message room
+  unfoldable pub afterWanted : Header → ChannelsRead → Reading
+  afterWanted header (channels-read.Refused e) = silent (refused e)
+  afterWanted header (channels-read.Ok channels) = readingInto way header (channelsNumber channels) message room
 
   -- the header's refusals come first
-  unfoldable pub withHeader : ℕ → HeaderRead → Reading
-  withHeader wanted (header-read.Refused e) = silent (refused e)
-  withHeader wanted (header-read.Ok header) = withWanted header (channelsFrom wanted)
+  unfoldable pub afterHeader : ℕ → HeaderRead → Reading
+  afterHeader wanted (header-read.Refused e) = silent (refused e)
+  afterHeader wanted (header-read.Ok header) = afterWanted header (channelsFrom wanted)
 
 -- decoding: header, 2, 7, chunks
 unfoldable pub wholeReading : Way → List ℕ → ℕ → ℕ → Reading
-wholeReading way message wanted room = withHeader way message room wanted (headerOf message)
+wholeReading way message wanted room = afterHeader way message room wanted (headerOf message)

@@ -1,4 +1,5 @@
 -- The record of a state: its bytes, writing them, and reading them left to right with the order of the refusals.
+-- The order of refusals reads from the bottom up: the last definition of it makes the first test.
 use mathlib.Core.Bool.{cond}
 use mathlib.Core.List.{List, [], _∷_, _++_}
 use Prim.Native.Nat.{ℕ}
@@ -55,9 +56,9 @@ recordedOver s out =
     cond (wellFormed s) (cond (ltb (length out) (length (recordBytes s))) out (writtenOver (recordBytes s) out)) out
 
 -- a number, and then what follows its bytes
-unfoldable pub withNumber : List ℕ → NumberRead → (ℕ → List ℕ → Started) → Started
-withNumber bytes (number-read.Number value used) next = next value (drop used bytes)
-withNumber bytes (number-read.Refused e) next = notStarted e
+unfoldable pub afterNumber : List ℕ → NumberRead → (ℕ → List ℕ → Started) → Started
+afterNumber bytes (number-read.Number value used) next = next value (drop used bytes)
+afterNumber bytes (number-read.Refused e) next = notStarted e
 
 -- after the last slot: the other faults of state, 9; extra bytes last, 9
 unfoldable pub readEnd : State → ℕ → Started
@@ -85,15 +86,16 @@ readSlots header wanted at pixel bytes =
 unfoldable pub readPositions : Header → ChannelsRead → List ℕ → Started
 readPositions header (channels-read.Refused e) bytes = notStarted e
 readPositions header (channels-read.Ok channels) bytes =
-    withNumber bytes (readNumber bytes)
-    (λ at rest. withNumber rest (readNumber rest) (λ pixel rest′. readSlots header (channelsNumber channels) at pixel rest′))
+    afterNumber bytes (readNumber bytes)
+    (λ at rest. afterNumber rest (readNumber rest) (λ pixel rest′. readSlots header (channelsNumber channels) at pixel rest′))
 
 -- after the header, with its refusals: wanted
 unfoldable pub readWanted : HeaderRead → List ℕ → Started
 readWanted (header-read.Refused e) bytes = notStarted e
 readWanted (header-read.Ok header) bytes =
-    withNumber bytes (readNumber bytes) (λ wanted rest. readPositions header (channelsFrom wanted) rest)
+    afterNumber bytes (readNumber bytes) (λ wanted rest. readPositions header (channelsFrom wanted) rest)
 
--- reading a record: header; numbers, cut 1 or not shortest 9; wanted 2 at its place; slots; the faults of state; extra bytes
+-- reading a record: header; numbers, cut 1 or not shortest 9; wanted 2 at its place; slots; the faults of state;
+-- extra bytes
 unfoldable pub readRecord : List ℕ → Started
 readRecord bytes = readWanted (headerOf bytes) (drop 14 bytes)

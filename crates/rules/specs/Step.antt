@@ -1,4 +1,5 @@
 -- Steps: the state that moves on by value, when it is well formed, a start, one step, and n steps.
+-- The order of refusals reads from the bottom up: the last definition of it makes the first test.
 use mathlib.Core.Bool.{Bool, cond, not, _&&_, _||_}
 use mathlib.Core.List.{List}
 use mathlib.Core.Path.{_≡_}

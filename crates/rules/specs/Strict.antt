@@ -1,4 +1,6 @@
--- The strict check: what a decode accepts, with no run past the image and nothing after the marker; it counts chunks and bytes.
+-- The strict check: what a decode accepts, with no run past the image and nothing after the marker; it counts chunks
+-- and bytes.
+-- The order of refusals reads from the bottom up: the last definition of it makes the first test.
 use mathlib.Core.Bool.{Bool, true, cond, _&&_}
 use mathlib.Core.List.{List, [], _∷_}
 use Prim.Native.Nat.{ℕ, zero, suc, _+_, _-_}

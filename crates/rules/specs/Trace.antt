@@ -1,4 +1,5 @@
--- What the decoder reads of a message at the header's own channels: the chunks, each where it is found, until no pixel is left or a chunk is cut.
+-- What the decoder reads of a message at the header's own channels: the chunks, each where it is found, until no
+-- pixel is left or a chunk is cut.
 use mathlib.Core.Bool.{cond}
 use mathlib.Core.List.{List, [], _∷_}
 use Prim.Native.Nat.{ℕ, zero, suc}

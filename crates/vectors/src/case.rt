@@ -1,5 +1,5 @@
-// A case of the list: a group's letter, two hex digits, four times sixteen, and the input's bytes. What the Rust answered is the two digits, 0 or
-// the number of a refusal, and the four figures.
+// A case of the list: a group's letter, two hex digits, four times sixteen, and the input's bytes. What the Rust
+// answered is the two digits, 0 or the number of a refusal, and the four figures.
 use crate::groups;
 use crate::groups::Answer;
 use crate::hex;
@@ -27,8 +27,8 @@ fn read(line: &[u8]) -> Recorded {
     }
 }
 
-// Whether the port answers the case of a line as the Rust did; never where the line is no case, or its input is longer than the room for it, which
-// holds all that a page can.
+// Whether the port answers the case of a line as the Rust did; never where the line is no case, or its input is
+// longer than the room for it, which holds all that a page can.
 pub fn agrees(line: &[u8]) -> bool {
     if line.len() < INPUT {
         return false;

@@ -1,5 +1,7 @@
-// What a case of a decode asks of the port. Its input: a byte, the channels wanted; a byte, how many bytes the lent output is short of the needed;
-// two, the message's length, big-endian; the message; and the output's bytes as the Rust left them, which were all 0xa5 before.
+// What a case of a decode asks of the port. Its input: a byte, the channels wanted; a byte, how many bytes the lent
+// output is short of the needed;
+// two, the message's length, big-endian; the message; and the output's bytes as the Rust left them, which were all
+// 0xa5 before.
 use crate::groups;
 use crate::groups::Answer;
 use decode::Decoded;

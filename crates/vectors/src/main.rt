@@ -1,7 +1,8 @@
-// Replays what crate qoi 0.4.1 answered, as tools/record-vectors recorded it, and says for each group of cases how many the port answers the same.
+// Replays what crate qoi 0.4.1 answered, as tools/record-vectors recorded it, and says for each group of cases how
+// many the port answers the same.
 //
-// The list comes on standard input. A line is a case, and an empty line is none: empty lines fill the pages of 65,536 bytes,
-// so that no case lies in two.
+// The list comes on standard input. A line is a case, and an empty line is none: empty lines fill the pages of 65,536
+// bytes, so that no case lies in two.
 ghost use Prim.Native.Nat.{_≤_};
 ghost use lib.ListN.{length};
 use libc::STDIN_FILENO;

@@ -1,4 +1,5 @@
--- The loop over the chunks, for every number of wanted channels: what holds at its head, what a chunk makes of it, and how it ends.
+-- The loop over the chunks, for every number of wanted channels: what holds at its head, what a chunk makes of it,
+-- and how it ends.
 -- Assumes nothing.
 use mathlib.Core.Path.{_≡_, refl, sym, _∙_, ap, ap₂}
 use mathlib.Core.Bool.{true, cond}
@@ -95,7 +96,8 @@ module _ (wanted : ℕ) (message : List ℕ) (source : Channels) (from missing :
     pub counted : pixelCount header ≡ from + missing
     pub sourced : header .channels ≡ source
 
-  -- at the loop's head: what is left to walk from here is what was to be walked from the first place; what the locals keep to
+  -- at the loop's head: what is left to walk from here is what was to be walked from the first place; what the locals
+  -- keep to
   pub record Head
       (first : Place) (steps : ℕ) (out₀ : List ℕ)
       (out : List ℕ) (slots : List Pixel) (current : Pixel) (at done limit bound : ℕ) : Type 0 where

@@ -1,4 +1,5 @@
--- Some chunks of a decode, from any place: where they lead, what they leave in the part of the output from the first one's pixel on.
+-- Some chunks of a decode, from any place: where they lead, what they leave in the part of the output from the first
+-- one's pixel on.
 use mathlib.Core.Bool.{Bool, true, false, cond, _&&_}
 use mathlib.Core.List.{List}
 use Prim.Native.Nat.{ℕ, zero, suc, _+_, _-_, _*_}

@@ -25,7 +25,8 @@ pub struct Walked {
     pub place: Place,
 }
 
-// Does at most `steps` chunks from a place, into the part of the output that starts at its pixel. Where the input does not fit, it does none.
+// Does at most `steps` chunks from a place, into the part of the output that starts at its pixel. Where the input
+// does not fit, it does none.
 pub fn walk(
     message: &[u8],
     header: Header,

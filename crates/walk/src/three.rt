@@ -13,8 +13,8 @@ use chunk::Found;
 use header::Header;
 use pixel::packed;
 
-// At most `steps` chunks from a place. `limit` is where the pixel position would be if each chunk left brought one pixel, so that only a
-// run has to count.
+// At most `steps` chunks from a place. `limit` is where the pixel position would be if each chunk left brought one
+// pixel, so that only a run has to count.
 pub fn walk_three(
     message: &[u8],
     header: Header,

@@ -1,4 +1,5 @@
--- `number::read_more` meets its contract: each test picks the case of `readMore` that it answers. The measure is how many bytes may follow.
+-- `number::read_more` meets its contract: each test picks the case of `readMore` that it answers. The measure is how
+-- many bytes may follow.
 use Prim.Native.Nat.{ℕ, _-_, _<_}
 use mathlib.Core.Path.{sym, ap, _∙_}
 use native.Mathlib.Omega.{arith}

@@ -1,4 +1,5 @@
--- `number::len` meets its contract: the bytes counted and those of what is left make those of the number, with one counted ahead.
+-- `number::len` meets its contract: the bytes counted and those of what is left make those of the number, with one
+-- counted ahead.
 use Prim.Native.Nat.{suc, _+_, _^_, _<_}
 use mathlib.Core.Path.{_≡_, ap}
 use native.Mathlib.Omega.{arith}

@@ -1,4 +1,5 @@
--- `number::write` meets its contract: at each turn what is written, the bytes of what is left and what stands after them are the whole answer.
+-- `number::write` meets its contract: at each turn what is written, the bytes of what is left and what stands after
+-- them are the whole answer.
 use Prim.Native.Nat.{ℕ, suc, _+_, _/_, _%_, _^_, _<_, _≤_}
 use mathlib.Core.Path.{_≡_, ap, _∙_}
 use mathlib.Core.List.{List, _++_}

@@ -1,4 +1,5 @@
--- `header::Header::decode` meets its contract: fewer than fourteen bytes are refused first, then byte 12 is the channels.
+-- `header::Header::decode` meets its contract: fewer than fourteen bytes are refused first, then byte 12 is the
+-- channels.
 use native.Mathlib.Omega.{arith}
 use lib.ListN.{length}
 use denote.Ref.{now}

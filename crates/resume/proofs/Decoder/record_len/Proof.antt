@@ -1,4 +1,5 @@
--- `resume::Decoder::record_len` meets its contract: fourteen bytes, three numbers, and four bytes for each of 65 pixels.
+-- `resume::Decoder::record_len` meets its contract: fourteen bytes, three numbers, and four bytes for each of 65
+-- pixels.
 -- Assumes nothing.
 use Prim.Native.Nat.{_+_, _*_, _≤_}
 use mathlib.Core.Path.{_≡_}

@@ -1,4 +1,5 @@
--- `resume::Decoder::required_buf_len` meets its contract: it is the saturating product of the pixels and the channels wanted.
+-- `resume::Decoder::required_buf_len` meets its contract: it is the saturating product of the pixels and the channels
+-- wanted.
 -- Assumes nothing.
 use borrow.Author.Needs.{needs}
 use Rattle.resume.proofs.Decoder.required_buf_len.Statement.{statement}

@@ -1,10 +1,11 @@
--- `resume::read_record::read_byte_position` meets its contract: the number's answer leads to the case of the definition.
+-- `resume::read_record::read_byte_position` meets its contract: the number's answer leads to the case of the
+-- definition.
 -- Assumes nothing.
 use mathlib.Core.Path.{sym, _∙_}
 use native.Mathlib.Omega.{arith}
 use borrow.Author.Needs.{needs}
 use Rattle.number.proofs.Laws.{read-bounds}
-use Rattle.rules.specs.Record.{withNumber}
+use Rattle.rules.specs.Record.{afterNumber}
 use Rattle.rules.proofs.PastingLaws.{whole-tail}
 use Rattle.resume.proofs.read_record.read_byte_position.Statement.{statement}
 use Rattle.resume.proofs.read_record.read_byte_position.Tie as tie
@@ -17,11 +18,11 @@ part-read-pixel-position-start : tie.Need-part-read-pixel-position-start
 part-read-pixel-position-start c = sub-read-pixel-position c
 
 returns : tie.Need-returns
-unfolding withNumber
+unfolding afterNumber
 returns c = rw (← c .before .before .before .before .read .ensures, c .before .before .e .given .1) (c .refused .ensures)
 
 returns-2 : tie.Need-returns-2
-unfolding withNumber
+unfolding afterNumber
 returns-2 c =
     rw (← c .before .before .before .before .before .read .ensures, c .before .before .before .value .given .1, ← whole-tail (c .before .before .before .before .before .before .before .args .bytes .now) _) (c .read-pixel-position .ensures)
 

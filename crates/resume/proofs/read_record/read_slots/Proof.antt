@@ -1,4 +1,5 @@
--- `resume::read_record::read_slots` meets its contract: 260 bytes make the current pixel and the slots, what is left is tested.
+-- `resume::read_record::read_slots` meets its contract: 260 bytes make the current pixel and the slots, what is left
+-- is tested.
 -- Assumes nothing.
 use Prim.Native.Nat.{_-_}
 use mathlib.Core.Path.{_≡_, sym}

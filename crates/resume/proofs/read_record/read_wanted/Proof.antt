@@ -4,7 +4,7 @@ use mathlib.Core.Path.{sym, _∙_}
 use native.Mathlib.Omega.{arith}
 use borrow.Author.Needs.{needs}
 use Rattle.number.proofs.Laws.{read-bounds}
-use Rattle.rules.specs.Record.{readWanted, withNumber}
+use Rattle.rules.specs.Record.{readWanted, afterNumber}
 use Rattle.rules.proofs.PastingLaws.{whole-tail}
 use Rattle.resume.proofs.read_record.read_wanted.Statement.{statement}
 use Rattle.resume.proofs.read_record.read_wanted.Tie as tie
@@ -17,11 +17,11 @@ part-read-positions-start : tie.Need-part-read-positions-start
 part-read-positions-start c = sub-read-positions c
 
 returns : tie.Need-returns
-unfolding readWanted withNumber
+unfolding readWanted afterNumber
 returns c = rw (← c .before .before .before .before .read .ensures, c .before .before .e .given .1) (c .refused .ensures)
 
 returns-2 : tie.Need-returns-2
-unfolding readWanted withNumber
+unfolding readWanted afterNumber
 returns-2 c =
     rw (← c .before .before .before .before .before .before .read .ensures, c .before .before .before .before .value .given .1, ← c .before .before .try-from .ensures, ← whole-tail (c .before .before .before .before .before .before .before .before .args .bytes .now) _) (c .read-positions .ensures)
 

@@ -1,4 +1,5 @@
--- `resume::read_record::slots_from` meets its contract: at each turn the slots passed are the first pixels of the bytes.
+-- `resume::read_record::slots_from` meets its contract: at each turn the slots passed are the first pixels of the
+-- bytes.
 -- Assumes nothing.
 use Prim.Native.Nat.{_≤_, _-_}
 use mathlib.Core.Path.{_≡_, refl, sym, _∙_, ap}

@@ -1,4 +1,5 @@
--- `resume::write_record::put` meets its contract: at each turn the bytes still to come, put here, make the whole answer.
+-- `resume::write_record::put` meets its contract: at each turn the bytes still to come, put here, make the whole
+-- answer.
 -- Assumes nothing.
 use Prim.Native.Nat.{suc, _<_, _≤_, _+_, _-_}
 use mathlib.Core.Path.{_≡_, refl, sym, _∙_}

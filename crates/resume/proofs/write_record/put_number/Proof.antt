@@ -1,4 +1,5 @@
--- `resume::write_record::put_number` meets its contract: the part from the place on starts with the number, and is back in its place.
+-- `resume::write_record::put_number` meets its contract: the part from the place on starts with the number, and is
+-- back in its place.
 -- Assumes nothing.
 use Prim.Native.Nat.{ℕ, _+_, _-_, _≤_}
 use mathlib.Core.Path.{_∙_, ap}

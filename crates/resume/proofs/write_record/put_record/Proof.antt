@@ -1,4 +1,5 @@
--- `resume::write_record::put_record` meets its contract: the numbers are put where the header ended, the pixels where the numbers ended.
+-- `resume::write_record::put_record` meets its contract: the numbers are put where the header ended, the pixels where
+-- the numbers ended.
 -- Assumes nothing.
 use mathlib.Core.Path.{_∙_, ap}
 use mathlib.Core.List.{_++_}

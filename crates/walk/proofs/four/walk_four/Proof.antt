@@ -1,4 +1,5 @@
--- `walk::four::walk_four` meets its contract: at the loop's head what is left to walk is what was to be walked from the first place.
+-- `walk::four::walk_four` meets its contract: at the loop's head what is left to walk is what was to be walked from
+-- the first place.
 -- Assumes nothing.
 use mathlib.Core.Path.{_≡_, refl, sym, ap₂}
 use Prim.Native.Nat.{ℕ, _-_, _≤_}
