@@ -15,7 +15,7 @@ use Rattle.header.specs.Header.{pixelCount}
 use Rattle.header.proofs.Laws.{is-true}
 use Rattle.rules.specs.Reading.{Answer, done, refused}
 use Rattle.rules.specs.Decode.{decoding, writtenOver}
-use Rattle.rules.specs.Figures.{answerFigures, recordFigures}
+use Rattle.rules.specs.Figures.{answerFigures}
 use Rattle.rules.specs.Step.{State, wellFormed, Started, started, notStarted, starting, Ran, going, ended, outputOf, running}
 use Rattle.rules.specs.Record.{Recorded, recorded, notRecorded, recording, recordedOver, recordBytes, readRecord}
 use Rattle.rules.proofs.RecordLaws.{record-length, formed}
@@ -27,7 +27,7 @@ use Rattle.demands.proofs.Steps.{run-keeps-before, run-further}
 use Rattle.demands.proofs.Inside.{inside-keeps-before}
 use Rattle.demands.proofs.Written.{written-record}
 use Rattle.decode.proofs.Whole.{refused-start}
-use Rattle.qoi.specs.Hosted.{startedFigures, startedOver, moreFigures, ranFigures, ranNext, hostFigures, hostOut, hostNext}
+use Rattle.qoi.specs.Hosted.{startedFigures, startedOver, recordedFigures, ranFigures, ranNext, hostFigures, hostOut, hostNext}
 use Rattle.promises.specs.Hosts.{says, returned, recordRoom, Host, starts, runs, takes-over, EndsAsDecode, TakesOver, Starts, TestsRecord}
 
 -- a refusal's number is neither 0 nor 256
@@ -74,7 +74,7 @@ lives-starts :
 lives-starts m w o part n small (notStarted e) is said = let z : numberOf e ≡ 0 = cc in absurd (omega (arith, number-small e .0))
 lives-starts m w o part n small (started s) is said = go (recording s (length part)) refl said
   where
-    go : (v : Recorded) → recording s (length part) ≡ v → recordFigures v ≡ says 0 n → Lives m w (take n (recordedOver s part)) o o
+    go : (v : Recorded) → recording s (length part) ≡ v → recordedFigures 0 v ≡ says 0 n → Lives m w (take n (recordedOver s part)) o o
     go (recorded k) e said = let same : k ≡ n = cc in kept s (begun o small is) part n (e ∙ ap recorded same)
     go (notRecorded x) e said = let z : numberOf x ≡ 0 = cc in absurd (omega (arith, number-small x .0))
 
@@ -85,7 +85,7 @@ module _ {m : List ℕ} {w : ℕ} {r o b : List ℕ} (l : Lives m w r o b) (step
   lives-runs n said = rw (l .reads) (go (running m steps (l .state) o) refl (rw (l .reads) at said))
     where
       on :
-          (s′ : State) (o′ : List ℕ) → Life m w s′ o′ b → (v : Recorded) → recording s′ (length next) ≡ v → moreFigures v ≡ says 256 n
+          (s′ : State) (o′ : List ℕ) → Life m w s′ o′ b → (v : Recorded) → recording s′ (length next) ≡ v → recordedFigures 256 v ≡ says 256 n
           → Lives m w (take n (recordedOver s′ next)) o′ b
       on s′ o′ life (recorded k) e told = let same : k ≡ n = cc in kept s′ life next n (e ∙ ap recorded same)
       on s′ o′ life (notRecorded x) e told = let z : numberOf x ≡ 256 = cc in absurd (omega (arith, number-small x .1))
@@ -105,7 +105,7 @@ module _ {m : List ℕ} {w : ℕ} {r o b : List ℕ} (l : Lives m w r o b) (step
 
       on :
           (s′ : State) (o′ : List ℕ) → running m steps (l .state) o ≡ going s′ o′ → (v : Recorded) → recording s′ (length next) ≡ v
-          → moreFigures v ≡ says 256 n → Goal (going s′ o′)
+          → recordedFigures 256 v ≡ says 256 n → Goal (going s′ o′)
       on s′ o′ e (recorded k) is told =
           let same : k ≡ n = cc in
           let life = run-lives steps (l .life) s′ o′ e in

@@ -8,14 +8,13 @@ use native.Mathlib.Omega.{arith}
 use lib.ListN.{length}
 use Rattle.pixel.specs.Refusal.{numberOf}
 use Rattle.rules.specs.Reading.{done, refused}
-use Rattle.rules.specs.Figures.{recordFigures}
 use Rattle.rules.specs.Step.{State, Started, started, notStarted, starting, Ran, going, ended, running}
 use Rattle.rules.specs.Record.{Recorded, recorded, notRecorded, recording, recordBytes, readRecord}
 use Rattle.demands.specs.Flushing.{Torn, Stored, begun}
 use Rattle.demands.proofs.Flushing.{stored-lives, crash-lives, checkpointed}
 use Rattle.demands.proofs.TakeOver.{reached-readable}
 use Rattle.demands.proofs.Written.{written-record}
-use Rattle.qoi.specs.Hosted.{startedFigures, moreFigures, ranFigures, hostFigures}
+use Rattle.qoi.specs.Hosted.{startedFigures, recordedFigures, ranFigures, hostFigures}
 use Rattle.promises.specs.Hosts.{says, TakesOver}
 use Rattle.promises.specs.Stores.{Checkpoint, Beginning}
 use Rattle.promises.proofs.Hosts.{number-small, life-takes-over}
@@ -26,7 +25,7 @@ pub host-begins :
     → Beginning m w o part n
 host-begins m w o part n small said = go (starting m w) refl said
   where
-    on : (s : State) → starting m w ≡ started s → (v : Recorded) → recording s (length part) ≡ v → recordFigures v ≡ says 0 n → Beginning m w o part n
+    on : (s : State) → starting m w ≡ started s → (v : Recorded) → recording s (length part) ≡ v → recordedFigures 0 v ≡ says 0 n → Beginning m w o part n
     on s is (recorded k) e told =
         let same : k ≡ n = cc in
         record { state = s; record-is = rw is (written-record s part n (e ∙ ap recorded same)); history = begun o small is }
@@ -48,7 +47,7 @@ module _ {m : List ℕ} {w : ℕ} {s f : State} {o b : List ℕ} {since : List (
     where
       on :
           (s′ : State) (o′ : List ℕ) → running m steps s o ≡ going s′ o′ → (v : Recorded) → recording s′ (length next) ≡ v
-          → moreFigures v ≡ says 256 n → Checkpoint m w (recordBytes s) o b saved steps next n
+          → recordedFigures 256 v ≡ says 256 n → Checkpoint m w (recordBytes s) o b saved steps next n
       on s′ o′ e (recorded k) is told =
           let reads = reached-readable (stored-lives h) in
           let same : k ≡ n = cc in

@@ -1,29 +1,31 @@
--- A state that travels as its record: what a start and a run answer a host, and what they leave in the lent parts.
+-- What a host is answered, and what is left in the parts that it lends; between calls a state travels as its record.
+use mathlib.Core.Path.{_≡_}
 use mathlib.Core.List.{List, [], _∷_}
 use Prim.Native.Nat.{ℕ}
 use lib.ListN.{length}
-use Rattle.rules.specs.Step.{Started, started, notStarted, Ran, going, ended, outputOf, running}
-use Rattle.rules.specs.Record.{Recorded, recorded, notRecorded, recording, recordedOver}
-use Rattle.rules.specs.Figures.{refusalFigures, answerFigures, recordFigures}
+use Rattle.rules.specs.Decode.{decoding, writtenOver}
+use Rattle.rules.specs.Step.{State, Started, started, notStarted, Ran, going, ended, outputOf, starting, running}
+use Rattle.rules.specs.Record.{Recorded, recorded, notRecorded, recording, recordedOver, readRecord}
+use Rattle.rules.specs.Figures.{refusalFigures, answerFigures}
+
+-- writing a record: the number and the record's length, or why it was not written
+abbrev pub recordedFigures : ℕ → Recorded → List ℕ
+recordedFigures number (recorded size) = number ∷ size ∷ 0 ∷ 0 ∷ 0 ∷ []
+recordedFigures number (notRecorded e) = refusalFigures e
 
 -- a start: the refusal, or the answer of writing the state's record
 abbrev pub startedFigures : Started → List ℕ → List ℕ
 startedFigures (notStarted e) out = refusalFigures e
-startedFigures (started s) out = recordFigures (recording s (length out))
+startedFigures (started s) out = recordedFigures 0 (recording s (length out))
 
 -- the part for the record then
 abbrev pub startedOver : Started → List ℕ → List ℕ
 startedOver (notStarted e) out = out
 startedOver (started s) out = recordedOver s out
 
--- more to do: 256 and the next record's length, or why it was not written
-abbrev pub moreFigures : Recorded → List ℕ
-moreFigures (recorded size) = 256 ∷ size ∷ 0 ∷ 0 ∷ 0 ∷ []
-moreFigures (notRecorded e) = refusalFigures e
-
--- a run: more to do with the next record, or the end's answer
+-- a run: more to do, 256, with the next record, or the end's answer
 abbrev pub ranFigures : Ran → List ℕ → List ℕ
-ranFigures (going s out) next = moreFigures (recording s (length next))
+ranFigures (going s out) next = recordedFigures 256 (recording s (length next))
 ranFigures (ended answer s out) next = answerFigures answer
 
 -- the part for the next record: an end leaves it as it was
@@ -43,3 +45,25 @@ hostOut message steps out (started s) = outputOf (running message steps s out)
 abbrev pub hostNext : List ℕ → ℕ → List ℕ → List ℕ → Started → List ℕ
 hostNext message steps out next (notStarted e) = next
 hostNext message steps out next (started s) = ranNext (running message steps s out) next
+
+-- What a call leaves: `figures` are its number and figures, `left` is the part lent to it.
+-- A record that is written comes with `number`.
+abbrev pub IsRecord : ℕ → State → List ℕ → List ℕ → List ℕ → Type 0
+IsRecord number s part figures left =
+    (figures ≡ recordedFigures number (recording s (length part))) × (left ≡ recordedOver s part)
+
+abbrev pub IsDecode : List ℕ → ℕ → List ℕ → List ℕ → List ℕ → Type 0
+IsDecode message wanted out figures left =
+    (figures ≡ answerFigures (decoding message wanted (length out) .answer))
+    × (left ≡ writtenOver (decoding message wanted (length out) .bytes) out)
+
+abbrev pub IsStart : List ℕ → ℕ → List ℕ → List ℕ → List ℕ → Type 0
+IsStart message wanted part figures left =
+    (figures ≡ startedFigures (starting message wanted) part) × (left ≡ startedOver (starting message wanted) part)
+
+-- a run from a record's bytes is lent two parts
+abbrev pub IsRun : List ℕ → ℕ → List ℕ → List ℕ → List ℕ → List ℕ → List ℕ → List ℕ → Type 0
+IsRun message steps bytes out next figures leftOut leftNext =
+    (figures ≡ hostFigures message steps out next (readRecord bytes))
+    × ((leftOut ≡ hostOut message steps out (readRecord bytes))
+    × (leftNext ≡ hostNext message steps out next (readRecord bytes)))

@@ -1,20 +1,44 @@
 // The functions that a host calls: each returns 0 or document 01's refusal number, and fills four figures.
 ghost use mathlib.Core.Path.{_≡_};
-ghost use mathlib.Core.List.{_∷_};
-ghost use lib.ListN.{length};
+ghost use mathlib.Core.List.{_∷_, []};
 ghost use Rattle.header.specs.Header.{headerOf};
-ghost use Rattle.rules.specs.Decode.{decoding, writtenOver};
-ghost use Rattle.rules.specs.Figures.{headerFigures, answerFigures};
-ghost use Rattle.rules.specs.Record.{readRecord};
-ghost use Rattle.rules.specs.Step.{starting};
-ghost use Rattle.qoi.specs.Hosted.{startedFigures, startedOver, hostFigures, hostOut, hostNext};
+ghost use Rattle.rules.specs.Figures.{refusalFigures, headerFigures};
+ghost use Rattle.resume.specs.State.{stateOf};
+ghost use Rattle.qoi.specs.Hosted.{IsDecode, IsRecord, IsStart, IsRun};
 use decode::Decoded;
 use header::HeaderRead;
+use pixel::error::Error;
 use pixel::error::FourFigures;
 use resume::Decoder;
 use resume::StartAnswer;
 use resume::StepAnswer;
 use resume::Written;
+
+// A refusal's number, with its figures.
+fn refuse(e: Error, figures: &mut FourFigures) -> u64
+    ensures { λ r. ⌜ r ∷ now (figures .exit) ≡ refusalFigures e ⌝ }
+{
+    *figures = e.figures();
+    e.number()
+}
+
+// The number of an answer that is no refusal, with its one or two figures.
+fn answer(number: u64, first: u64, second: u64, figures: &mut FourFigures) -> u64
+    ensures { λ r. ⌜ r ∷ now (figures .exit) ≡ number ∷ first ∷ second ∷ 0 ∷ 0 ∷ [] ⌝ }
+{
+    *figures = [first, second, 0, 0];
+    number
+}
+
+// Writes a state's record, and answers with `number` and the record's length.
+fn answer_record(number: u64, decoder: Decoder, part: &mut [u8], figures: &mut FourFigures) -> u64
+    ensures { λ r. ⌜ IsRecord number (stateOf decoder) (now (part .entry)) (r ∷ now (figures .exit)) (now (part .exit)) ⌝ }
+{
+    match decoder.write_record(part) {
+        Written::Refused(e) => refuse(e, figures),
+        Written::Done { size } => answer(number, size as u64, 0, figures),
+    }
+}
 
 // Width, height, channels and colour space of a message.
 #[no_mangle]
@@ -22,10 +46,7 @@ pub extern "C" fn pivotshade_header(message: &[u8], figures: &mut FourFigures) -
     ensures { λ r. ⌜ r ∷ now (figures .exit) ≡ headerFigures (headerOf (now (message .entry))) ⌝ }
 {
     match header::decode_header(message) {
-        HeaderRead::Refused(e) => {
-            *figures = e.figures();
-            e.number()
-        }
+        HeaderRead::Refused(e) => refuse(e, figures),
         HeaderRead::Ok(h) => {
             let channels = h.channels;
             let colorspace = h.colorspace;
@@ -48,17 +69,11 @@ pub extern "C" fn pivotshade_decode(
     out: &mut [u8],
     figures: &mut FourFigures,
 ) -> u64
-    ensures { λ r. ⌜ (r ∷ now (figures .exit) ≡ answerFigures (decoding (now (message .entry)) wanted (length (now (out .entry))) .answer)) × (now (out .exit) ≡ writtenOver (decoding (now (message .entry)) wanted (length (now (out .entry))) .bytes) (now (out .entry))) ⌝ }
+    ensures { λ r. ⌜ IsDecode (now (message .entry)) wanted (now (out .entry)) (r ∷ now (figures .exit)) (now (out .exit)) ⌝ }
 {
     match decode::decode(message, wanted, out) {
-        Decoded::Refused(e) => {
-            *figures = e.figures();
-            e.number()
-        }
-        Decoded::Done { size, used } => {
-            *figures = [size as u64, used as u64, 0, 0];
-            0
-        }
+        Decoded::Refused(e) => refuse(e, figures),
+        Decoded::Done { size, used } => answer(0, size as u64, used as u64, figures),
     }
 }
 
@@ -70,28 +85,16 @@ pub extern "C" fn pivotshade_start(
     record: &mut [u8],
     figures: &mut FourFigures,
 ) -> u64
-    ensures { λ r. ⌜ (r ∷ now (figures .exit) ≡ startedFigures (starting (now (message .entry)) wanted) (now («record» .entry))) × (now («record» .exit) ≡ startedOver (starting (now (message .entry)) wanted) (now («record» .entry))) ⌝ }
+    ensures { λ r. ⌜ IsStart (now (message .entry)) wanted (now («record» .entry)) (r ∷ now (figures .exit)) (now («record» .exit)) ⌝ }
 {
     let idle = Decoder::idle();
     let started = idle.start(message, wanted);
-    let answer = started.answer;
-    match answer {
-        StartAnswer::Refused(e) => {
-            *figures = e.figures();
-            e.number()
-        }
+    let taken = started.answer;
+    match taken {
+        StartAnswer::Refused(e) => refuse(e, figures),
         StartAnswer::Ok => {
             let decoder = started.decoder;
-            match decoder.write_record(record) {
-                Written::Refused(e) => {
-                    *figures = e.figures();
-                    e.number()
-                }
-                Written::Done { size } => {
-                    *figures = [size as u64, 0, 0, 0];
-                    0
-                }
-            }
+            answer_record(0, decoder, record, figures)
         }
     }
 }
@@ -107,41 +110,24 @@ pub extern "C" fn pivotshade_run(
     next: &mut [u8],
     figures: &mut FourFigures,
 ) -> u64
-    ensures { λ r. ⌜ (r ∷ now (figures .exit) ≡ hostFigures (now (message .entry)) steps (now (out .entry)) (now (next .entry)) (readRecord (now («record» .entry)))) × ((now (out .exit) ≡ hostOut (now (message .entry)) steps (now (out .entry)) (readRecord (now («record» .entry)))) × (now (next .exit) ≡ hostNext (now (message .entry)) steps (now (out .entry)) (now (next .entry)) (readRecord (now («record» .entry))))) ⌝ }
+    ensures { λ r. ⌜ IsRun (now (message .entry)) steps (now («record» .entry)) (now (out .entry)) (now (next .entry))
+        (r ∷ now (figures .exit)) (now (out .exit)) (now (next .exit)) ⌝ }
 {
     let idle = Decoder::idle();
     let started = idle.take_up(record);
-    let answer = started.answer;
-    match answer {
-        StartAnswer::Refused(e) => {
-            *figures = e.figures();
-            e.number()
-        }
+    let taken = started.answer;
+    match taken {
+        StartAnswer::Refused(e) => refuse(e, figures),
         StartAnswer::Ok => {
             let decoder = started.decoder;
             let stepped = decoder.run(message, out, steps);
             let end = stepped.answer;
             match end {
-                StepAnswer::Refused(e) => {
-                    *figures = e.figures();
-                    e.number()
-                }
-                StepAnswer::Done { size: all, used } => {
-                    *figures = [all as u64, used as u64, 0, 0];
-                    0
-                }
+                StepAnswer::Refused(e) => refuse(e, figures),
+                StepAnswer::Done { size, used } => answer(0, size as u64, used as u64, figures),
                 StepAnswer::More => {
                     let reached = stepped.decoder;
-                    match reached.write_record(next) {
-                        Written::Refused(e) => {
-                            *figures = e.figures();
-                            e.number()
-                        }
-                        Written::Done { size } => {
-                            *figures = [size as u64, 0, 0, 0];
-                            256
-                        }
-                    }
+                    answer_record(256, reached, next, figures)
                 }
             }
         }
