@@ -10,8 +10,9 @@ use Rattle.pixel.specs.Types.{channelsNumber}
 use Rattle.header.specs.declared.Header.{Header}
 use Rattle.header.specs.declared.HeaderRead.{HeaderRead}
 use Rattle.header.specs.declared.HeaderRead.the-variants as header-read
+use Rattle.header.specs.Header.{headerOf}
 use Rattle.rules.specs.Reading.{Answer, done, refused}
-use Rattle.rules.specs.Decode.{decoding, restOf}
+use Rattle.rules.specs.Decode.{decoding, writtenOver, restOf}
 
 -- bytes written and message bytes used, or a refusal
 abbrev pub answerOf : Decoded → Answer
@@ -33,6 +34,18 @@ bufAnswer message room (header-read.Ok header) =
 abbrev pub bufBytes : List ℕ → ℕ → HeaderRead → List ℕ
 bufBytes message room (header-read.Refused e) = []
 bufBytes message room (header-read.Ok header) = decoding message (channelsNumber (header .channels)) room .bytes
+
+-- what a decode answers, and what a lent output that held `before` holds after it
+abbrev pub Decodes : List ℕ → ℕ → List ℕ → Decoded → List ℕ → Type 0
+Decodes message wanted before r after =
+    (answerOf r ≡ decoding message wanted (length before) .answer)
+    × (after ≡ writtenOver (decoding message wanted (length before) .bytes) before)
+
+-- the same of a decode to the channels of the message's own header
+abbrev pub DecodesToBuf : List ℕ → List ℕ → HeaderRead → List ℕ → Type 0
+DecodesToBuf message before r after =
+    (r ≡ bufAnswer message (length before) (headerOf message))
+    × (after ≡ writtenOver (bufBytes message (length before) (headerOf message)) before)
 
 -- where the rest of a message of `size` bytes begins: after the bytes used, or at its end
 abbrev pub restAt : ℕ → Answer → ℕ

@@ -1,9 +1,5 @@
 // The whole decode of a message into a lent output, and the rest of a message after it.
-ghost use mathlib.Core.Path.{_≡_};
-ghost use lib.ListN.{length};
-ghost use Rattle.rules.specs.Decode.{decoding, writtenOver};
-ghost use Rattle.decode.specs.Decoded.{answerOf, bufAnswer, bufBytes, IsRest};
-ghost use Rattle.header.specs.Header.{headerOf};
+ghost use Rattle.decode.specs.Decoded.{answerOf, Decodes, DecodesToBuf, IsRest};
 use header::Header;
 use header::HeaderRead;
 use pixel::error::Error;
@@ -22,7 +18,7 @@ pub enum Decoded {
 
 // Decodes a message to 3 or 4 wanted channels. Of a longer output only the first bytes are used.
 pub fn decode(message: &[u8], wanted: u64, out: &mut [u8]) -> Decoded
-    ensures { λ r. ⌜ (answerOf r ≡ decoding (now (message .entry)) wanted (length (now (out .entry))) .answer) × (now (out .exit) ≡ writtenOver (decoding (now (message .entry)) wanted (length (now (out .entry))) .bytes) (now (out .entry))) ⌝ }
+    ensures { λ r. ⌜ Decodes (now (message .entry)) wanted (now (out .entry)) r (now (out .exit)) ⌝ }
 {
     let idle = Decoder::idle();
     let started = idle.start(message, wanted);
@@ -45,7 +41,7 @@ pub fn decode(message: &[u8], wanted: u64, out: &mut [u8]) -> Decoded
 
 // Decodes a message to the channels of its own header, and answers that header.
 pub fn decode_to_buf(out: &mut [u8], message: &[u8]) -> HeaderRead
-    ensures { λ r. ⌜ (r ≡ bufAnswer (now (message .entry)) (length (now (out .entry))) (headerOf (now (message .entry)))) × (now (out .exit) ≡ writtenOver (bufBytes (now (message .entry)) (length (now (out .entry))) (headerOf (now (message .entry)))) (now (out .entry))) ⌝ }
+    ensures { λ r. ⌜ DecodesToBuf (now (message .entry)) (now (out .entry)) r (now (out .exit)) ⌝ }
 {
     match Header::decode(message) {
         HeaderRead::Refused(e) => HeaderRead::Refused(e),

@@ -2,21 +2,14 @@
 use mathlib.Core.Path.{_≡_}
 use mathlib.Core.List.{List}
 use mathlib.Core.Bool.{_||_}
-use Prim.Native.Nat.{ℕ, _≤_}
+use Prim.Native.Nat.{ℕ, _+_, _≤_}
 use lib.Dec.{T, eqb}
 use lib.ListN.{length}
 use Rattle.number.specs.Seven.{readNumber}
 use Rattle.header.specs.declared.Header.{Header}
-use Rattle.rules.specs.Reading.{sizeWanted}
+use Rattle.rules.specs.Reading.{pasted, sizeWanted}
 use Rattle.rules.specs.Step.{State, wellFormed, Started}
 use Rattle.rules.specs.Record.{afterNumber, readSlots}
-use Rattle.resume.specs.declared.Decoder.{Decoder}
-use Rattle.resume.specs.declared.Started as code
-use Rattle.resume.specs.State.{stateOf, startAnswer, stateAfter}
-
--- a start of the rules is answered, and the state is the one that it leaves
-abbrev pub Answers : Started → Decoder → code.Started → Type 0
-Answers s old r = (r .answer ≡ startAnswer s) × (stateOf (r .decoder) ≡ stateAfter (stateOf old) s)
 
 -- a record from its pixel position on
 abbrev pub fromPixel : Header → ℕ → ℕ → List ℕ → Started
@@ -37,3 +30,7 @@ pub record Ready (s : State) (message out : List ℕ) (required : ℕ) : Type 0 
   pub counted : required ≡ sizeWanted (s .header) (s .wanted)
   pub room : required ≤ length out
   pub inside : s .place .at ≤ length message
+
+-- bytes are put into a part that held `before`, at a place: where they end, and what the part holds then
+abbrev pub Puts : ℕ → List ℕ → List ℕ → ℕ → List ℕ → Type 0
+Puts at bytes before r after = (r ≡ at + length bytes) × (after ≡ pasted at bytes before)

@@ -1,8 +1,9 @@
 -- What the answer of a step or a run means: a run of the rules.
 use mathlib.Core.List.{List}
 use Prim.Native.Nat.{ℕ}
+use lib.ListN.{length}
 use Rattle.rules.specs.Reading.{Answer, done, refused}
-use Rattle.rules.specs.Step.{State, Ran, going, ended}
+use Rattle.rules.specs.Step.{State, step, Ran, going, ended, runOn}
 use Rattle.resume.specs.declared.StepAnswer.{StepAnswer}
 use Rattle.resume.specs.declared.StepAnswer.the-variants.{More, Done, Refused}
 use Rattle.resume.specs.declared.Stepped.{Stepped}
@@ -22,3 +23,7 @@ ranOf r out = ranBy (r .answer) (stateOf (r .decoder)) out
 abbrev pub endAnswer : Answer → StepAnswer
 endAnswer (done size used) = Done size used
 endAnswer (refused e) = Refused e
+
+-- one step from a state, on an output
+abbrev pub oneStep : List ℕ → State → List ℕ → Ran
+oneStep message s out = runOn going s out (step s message (length out))

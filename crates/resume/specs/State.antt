@@ -1,12 +1,15 @@
 -- What a decoder's fields and the answers of its functions mean: a state, a start and a record of the rules.
 use mathlib.Core.Path.{_≡_, ap}
+use mathlib.Core.List.{List}
 use Prim.Native.Nat.{ℕ}
+use lib.ListN.{length}
 use Rattle.header.specs.declared.Header.{Header}
 use Rattle.header.specs.Header.{defaultHeader}
 use Rattle.rules.specs.Reading.{startPlace}
 use Rattle.rules.specs.Step.{State, Started, started, notStarted}
-use Rattle.rules.specs.Record.{Recorded, recorded, notRecorded}
+use Rattle.rules.specs.Record.{Recorded, recorded, notRecorded, recording, recordedOver}
 use Rattle.resume.specs.declared.Decoder.{Decoder}
+use Rattle.resume.specs.declared.Started as code
 use Rattle.resume.specs.declared.StartAnswer.{StartAnswer}
 use Rattle.resume.specs.declared.StartAnswer.the-variants.{Ok, Refused}
 use Rattle.resume.specs.declared.Written.{Written}
@@ -39,10 +42,18 @@ abbrev pub stateAfter : State → Started → State
 stateAfter old (started s) = s
 stateAfter old (notStarted e) = old
 
+-- a start of the rules is answered, and the state is the one that it leaves
+abbrev pub Answers : Started → Decoder → code.Started → Type 0
+Answers s old r = (r .answer ≡ startAnswer s) × (stateOf (r .decoder) ≡ stateAfter (stateOf old) s)
+
 -- a record's length, or the refusal
 abbrev pub writtenAnswer : Recorded → Written
 writtenAnswer (recorded size) = written.Done size
 writtenAnswer (notRecorded e) = written.Refused e
+
+-- what writing a record answers, and what a lent part that held `before` holds after it
+abbrev pub Records : State → List ℕ → Written → List ℕ → Type 0
+Records s before r after = (r ≡ writtenAnswer (recording s (length before))) × (after ≡ recordedOver s before)
 
 -- the decoder that holds a state
 abbrev decoderOf : State → Decoder

@@ -3,10 +3,10 @@ ghost use mathlib.Core.Path.{_≡_};
 ghost use lib.ListN.{length};
 ghost use Rattle.header.specs.Header.{saturated};
 ghost use Rattle.rules.specs.Reading.{sizeWanted};
-ghost use Rattle.rules.specs.Step.{starting, going, step, runOn, running};
-ghost use Rattle.rules.specs.Record.{readRecord, recordBytes, recording, recordedOver};
-ghost use Rattle.resume.specs.Run.{ranOf};
-ghost use Rattle.resume.specs.State.{stateOf, idleState, startAnswer, stateAfter, writtenAnswer};
+ghost use Rattle.rules.specs.Step.{starting, running};
+ghost use Rattle.rules.specs.Record.{readRecord, recordBytes};
+ghost use Rattle.resume.specs.Run.{ranOf, oneStep};
+ghost use Rattle.resume.specs.State.{stateOf, idleState, Answers, Records};
 use header::Header;
 use header::HeaderRead;
 use pixel::Pixel;
@@ -75,7 +75,7 @@ impl Decoder {
 
     // The state before the first chunk of a message.
     pub fn start(self, message: &[u8], wanted: u64) -> Started
-        ensures { λ r. ⌜ (r .answer ≡ startAnswer (starting (now (message .entry)) wanted)) × (stateOf (r .decoder) ≡ stateAfter (stateOf self) (starting (now (message .entry)) wanted)) ⌝ }
+        ensures { λ r. ⌜ Answers (starting (now (message .entry)) wanted) self r ⌝ }
     {
         match Header::decode(message) {
             HeaderRead::Refused(e) => start::refused(self, e),
@@ -87,7 +87,7 @@ impl Decoder {
 
     // The state that a record holds.
     pub fn take_up(self, record: &[u8]) -> Started
-        ensures { λ r. ⌜ (r .answer ≡ startAnswer (readRecord (now («record» .entry)))) × (stateOf (r .decoder) ≡ stateAfter (stateOf self) (readRecord (now («record» .entry)))) ⌝ }
+        ensures { λ r. ⌜ Answers (readRecord (now («record» .entry))) self r ⌝ }
     {
         match Header::decode(record) {
             HeaderRead::Refused(e) => start::refused(self, e),
@@ -97,7 +97,7 @@ impl Decoder {
 
     // One chunk (one pixel for an ff that is not consumed) or, with no pixel left, the marker test.
     pub fn step(self, message: &[u8], out: &mut [u8]) -> Stepped
-        ensures { λ r. ⌜ ranOf r (now (out .exit)) ≡ runOn going (stateOf self) (now (out .entry)) (step (stateOf self) (now (message .entry)) (length (now (out .entry)))) ⌝ }
+        ensures { λ r. ⌜ ranOf r (now (out .exit)) ≡ oneStep (now (message .entry)) (stateOf self) (now (out .entry)) ⌝ }
     {
         run::run(self, message, out, 1)
     }
@@ -111,7 +111,7 @@ impl Decoder {
 
     // Writes the record of the state; bytes after it stay.
     pub fn write_record(self, out: &mut [u8]) -> Written
-        ensures { λ r. ⌜ (r ≡ writtenAnswer (recording (stateOf self) (length (now (out .entry))))) × (now (out .exit) ≡ recordedOver (stateOf self) (now (out .entry))) ⌝ }
+        ensures { λ r. ⌜ Records (stateOf self) (now (out .entry)) r (now (out .exit)) ⌝ }
     {
         if !well_formed::well_formed(self) {
             return Written::Refused(Error::BadState);

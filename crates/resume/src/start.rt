@@ -1,8 +1,7 @@
 // A fresh state, and the answers of a start.
 ghost use mathlib.Core.Path.{_≡_};
 ghost use Rattle.rules.specs.Step.{startWanted, notStarted};
-ghost use Rattle.resume.specs.Asked.{Answers};
-ghost use Rattle.resume.specs.State.{stateOf, freshState};
+ghost use Rattle.resume.specs.State.{stateOf, Answers, freshState};
 use crate::Decoder;
 use crate::StartAnswer;
 use crate::Started;

@@ -7,6 +7,7 @@ ghost use Rattle.number.specs.Seven.{sevenBits};
 ghost use Rattle.rules.specs.Decode.{writtenOver};
 ghost use Rattle.rules.specs.Reading.{pasted};
 ghost use Rattle.rules.specs.Record.{pixelsBytes, recordBytes};
+ghost use Rattle.resume.specs.Asked.{Puts};
 ghost use Rattle.resume.specs.State.{stateOf};
 use crate::Decoder;
 use crate::Slots;
@@ -35,7 +36,7 @@ pub fn put_record(out: &mut [u8], decoder: Decoder)
 // Writes three numbers at a place, and answers where they end.
 fn put_numbers(out: &mut [u8], start: usize, a: u64, b: u64, c: u64) -> usize
     requires { ⌜ start + length (sevenBits a) + length (sevenBits b) + length (sevenBits c) ≤ length (now out) ⌝ }
-    ensures { λ r. ⌜ (r ≡ start + length (sevenBits a ++ (sevenBits b ++ sevenBits c))) × (now (out .exit) ≡ pasted start (sevenBits a ++ (sevenBits b ++ sevenBits c)) (now (out .entry))) ⌝ }
+    ensures { λ r. ⌜ Puts start (sevenBits a ++ (sevenBits b ++ sevenBits c)) (now (out .entry)) r (now (out .exit)) ⌝ }
 {
     let second = put_number(out, start, a);
     let third = put_number(out, second, b);
@@ -68,7 +69,7 @@ fn put_slots(out: &mut [u8], start: usize, slots: Slots)
 // Writes a pixel's four bytes at a place, and answers where they end.
 fn put_pixel(out: &mut [u8], at: usize, p: Pixel) -> usize
     requires { ⌜ at + length (p .rgba) ≤ length (now out) ⌝ }
-    ensures { λ r. ⌜ (r ≡ at + length (p .rgba)) × (now (out .exit) ≡ pasted at (p .rgba) (now (out .entry))) ⌝ }
+    ensures { λ r. ⌜ Puts at (p .rgba) (now (out .entry)) r (now (out .exit)) ⌝ }
 {
     let rgba = p.rgba;
     put(out, at, &rgba)
@@ -77,7 +78,7 @@ fn put_pixel(out: &mut [u8], at: usize, p: Pixel) -> usize
 // Writes a number at a place, and answers where it ends.
 fn put_number(out: &mut [u8], at: usize, value: u64) -> usize
     requires { ⌜ at + length (sevenBits value) ≤ length (now out) ⌝ }
-    ensures { λ r. ⌜ (r ≡ at + length (sevenBits value)) × (now (out .exit) ≡ pasted at (sevenBits value) (now (out .entry))) ⌝ }
+    ensures { λ r. ⌜ Puts at (sevenBits value) (now (out .entry)) r (now (out .exit)) ⌝ }
 {
     number::write(value, &mut out[at..]);
     at + number::len(value)
@@ -86,7 +87,7 @@ fn put_number(out: &mut [u8], at: usize, value: u64) -> usize
 // Writes bytes at a place, and answers where they end.
 fn put(out: &mut [u8], at: usize, bytes: &[u8]) -> usize
     requires { ⌜ at + length (now bytes) ≤ length (now out) ⌝ }
-    ensures { λ r. ⌜ (r ≡ at + length (now (bytes .entry))) × (now (out .exit) ≡ pasted at (now (bytes .entry)) (now (out .entry))) ⌝ }
+    ensures { λ r. ⌜ Puts at (now (bytes .entry)) (now (out .entry)) r (now (out .exit)) ⌝ }
 {
     let mut i: usize = 0;
     while i < bytes.len() {
