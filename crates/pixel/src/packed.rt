@@ -12,7 +12,7 @@ pub fn pack(r: u8, g: u8, b: u8, a: u8) -> u32
 }
 
 // The pixel as one number.
-pub fn packed(p: Pixel) -> u32
+pub fn of_pixel(p: Pixel) -> u32
     ensures { λ n. ⌜ unpacked n ≡ p ⌝ }
 {
     pack(p.r(), p.g(), p.b(), p.a())

@@ -62,8 +62,8 @@ pixel·signed κs a z z′ e e′ ok ok′ p q = (p ∙ sym q, refl)
 pub pixel·packed·pack : Determined packed.pack.Kinds.ps packed.pack.Kinds.r packed.pack.Reads.Post
 pixel·packed·pack κs a z z′ e e′ ok ok′ p q = (unpacked-determined z z′ ok ok′ (p ∙ sym q), refl)
 
-pub pixel·packed·packed : Determined packed.packed.Kinds.ps packed.packed.Kinds.r packed.packed.Reads.Post
-pixel·packed·packed κs a z z′ e e′ ok ok′ p q = (unpacked-determined z z′ ok ok′ (p ∙ sym q), refl)
+pub pixel·packed·of-pixel : Determined packed.of_pixel.Kinds.ps packed.of_pixel.Kinds.r packed.of_pixel.Reads.Post
+pixel·packed·of-pixel κs a z z′ e e′ ok ok′ p q = (unpacked-determined z z′ ok ok′ (p ∙ sym q), refl)
 
 pub pixel·packed·unpack : Determined packed.unpack.Kinds.ps packed.unpack.Kinds.r packed.unpack.Reads.Post
 pixel·packed·unpack κs a z z′ e e′ ok ok′ p q = (p ∙ sym q, refl)

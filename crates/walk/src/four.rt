@@ -30,7 +30,7 @@ pub fn walk_four(
     let missing = header.n_pixels() - from;
     let first = place.current;
     let mut slots = place.slots;
-    let mut current = packed::packed(first);
+    let mut current = packed::of_pixel(first);
     let mut alpha = packed::alpha(current);
     let mut at = place.at;
     let mut done: usize = 0;
@@ -53,7 +53,7 @@ pub fn walk_four(
             Found::Index(slot) => {
                 let i = slot as usize;
                 let stored = slots[i];
-                current = packed::packed(stored);
+                current = packed::of_pixel(stored);
                 alpha = packed::alpha(current);
                 put_four(out, done * 4, current);
                 at += 1;

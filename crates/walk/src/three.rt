@@ -30,7 +30,7 @@ pub fn walk_three(
     let missing = header.n_pixels() - from;
     let first = place.current;
     let mut slots = place.slots;
-    let mut current = packed::packed(first);
+    let mut current = packed::of_pixel(first);
     let mut at = place.at;
     let mut done: usize = 0;
     let mut limit = steps;
@@ -52,7 +52,7 @@ pub fn walk_three(
             Found::Index(slot) => {
                 let i = slot as usize;
                 let stored = slots[i];
-                current = packed::opaque(packed::packed(stored));
+                current = packed::opaque(packed::of_pixel(stored));
                 put_three(out, done * 3, current);
                 at += 1;
                 done += 1;

@@ -64,7 +64,7 @@ loop-holds c =
         long = slots-long (c .before .before .before .before .before .before .before .before);
         whole =
             λ header of.
-            ap₂ (λ (n m : ℕ). walking header 4 (a .message .now) (a .place .pixel) n (placeAt (a .place .at) m (unpacked (c .before .before .packed .result)) (a .place .slots)) (a .out .now))
+            ap₂ (λ (n m : ℕ). walking header 4 (a .message .now) (a .place .pixel) n (placeAt (a .place .at) m (unpacked (c .before .before .of-pixel .result)) (a .place .slots)) (a .out .now))
             (omega arith) (omega arith);
       },
       c .before .alpha .ensures,
@@ -73,7 +73,7 @@ loop-holds c =
 returns : tie.Need-returns Inv-loop μ-loop
 returns c =
     let l = c .before .before .before .before .before .before .loop in
-    rw (c .unpack .ensures, ← c .before .before .before .before .before .before .before .before .before .packed .ensures)
+    rw (c .unpack .ensures, ← c .before .before .before .before .before .before .before .before .before .of-pixel .ensures)
     (sym (ends-cut _ _ _ _ _ _ _ _ _ _ _ _ _ _ _ (l .inv .0) (c .before .before .before .before .before .loop-test .taken) (finds _ _ _ _ _ _ _ _ _ _ _ _ _ _ _ (l .inv .0) _ _ (c .before .before .before .read .ensures) (c .before .enum-told .given .1)) (c .before .before .before .before .before .before .before .before .before .before .before .before .before .before .before .args .header) (of-header (c .before .before .before .before .before .before .before .before .before .before .before .before))))
 
 array-copy-out-stored : tie.Need-array-copy-out-stored Inv-loop μ-loop
@@ -86,7 +86,7 @@ unfolding decoderKeeps
 loop-again c =
     let l = c .before .before .before .before .before .before .before .before .before .before .before .before .before .loop in (
       after-index _ _ _ _ _ _ _ _ _ _ _ _ _ _ _ (l .inv .0) (c .before .before .before .before .before .before .before .before .before .before .before .before .loop-test .taken) fourBytes four-bytes _ (finds _ _ _ _ _ _ _ _ _ _ _ _ _ _ _ (l .inv .0) _ _ (c .before .before .before .before .before .before .before .before .before .before .read .ensures) (c .before .before .before .before .before .before .before .before .slot .given .1)) _ _
-          (c .before .before .before .before .before .packed2 .ensures) _ (c .before .before .put-four .ensures),
+          (c .before .before .before .before .before .of-pixel2 .ensures) _ (c .before .before .put-four .ensures),
       c .before .before .before .before .alpha2 .ensures,
     )
 
@@ -134,7 +134,7 @@ loop-again-3 c =
 returns-2 : tie.Need-returns-2 Inv-loop μ-loop
 returns-2 c =
     let l = c .before .before .loop in
-    rw (c .unpack3 .ensures, ← c .before .before .before .before .before .packed .ensures)
+    rw (c .unpack3 .ensures, ← c .before .before .before .before .before .of-pixel .ensures)
     (sym (ends-bound _ _ _ _ _ _ _ _ _ _ _ _ _ _ _ (l .inv .0) (c .before .loop-test .left) (c .before .before .before .before .before .before .before .before .before .before .before .args .header) (of-header (c .before .before .before .before .before .before .before .before))))
 
 pub walk-four-spec : {M : Type 1} → statement M

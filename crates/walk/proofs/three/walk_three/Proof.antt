@@ -64,14 +64,14 @@ loop-holds c =
       long = slots-long (c .before .before .before .before .before .before .before);
       whole =
           λ header of.
-          ap₂ (λ (n m : ℕ). walking header 3 (a .message .now) (a .place .pixel) n (placeAt (a .place .at) m (unpacked (c .before .packed .result)) (a .place .slots)) (a .out .now))
+          ap₂ (λ (n m : ℕ). walking header 3 (a .message .now) (a .place .pixel) n (placeAt (a .place .at) m (unpacked (c .before .of-pixel .result)) (a .place .slots)) (a .out .now))
           (omega arith) (omega arith);
     }
 
 returns : tie.Need-returns Inv-loop μ-loop
 returns c =
     let l = c .before .before .before .before .before .before .loop in
-    rw (c .unpack .ensures, ← c .before .before .before .before .before .before .before .before .packed .ensures)
+    rw (c .unpack .ensures, ← c .before .before .before .before .before .before .before .before .of-pixel .ensures)
     (sym (ends-cut _ _ _ _ _ _ _ _ _ _ _ _ _ _ _ (l .inv) (c .before .before .before .before .before .loop-test .taken) (finds _ _ _ _ _ _ _ _ _ _ _ _ _ _ _ (l .inv) _ _ (c .before .before .before .read .ensures) (c .before .enum-told .given .1)) (c .before .before .before .before .before .before .before .before .before .before .before .before .before .before .args .header) (of-header (c .before .before .before .before .before .before .before .before .before .before .before))))
 
 array-copy-out-stored : tie.Need-array-copy-out-stored Inv-loop μ-loop
@@ -84,7 +84,7 @@ unfolding decoderKeeps
 loop-again c =
     let l = c .before .before .before .before .before .before .before .before .before .before .before .before .before .loop in
     after-index _ _ _ _ _ _ _ _ _ _ _ _ _ _ _ (l .inv) (c .before .before .before .before .before .before .before .before .before .before .before .before .loop-test .taken) threeBytes three-bytes _ (finds _ _ _ _ _ _ _ _ _ _ _ _ _ _ _ (l .inv) _ _ (c .before .before .before .before .before .before .before .before .before .before .read .ensures) (c .before .before .before .before .before .before .before .before .slot .given .1)) _ _
-    (c .before .before .before .before .opaque .ensures ∙ ap (λ (p : Pixel). withAlpha p 255) (c .before .before .before .before .before .packed2 .ensures)) _ (c .before .before .put-three .ensures)
+    (c .before .before .before .before .opaque .ensures ∙ ap (λ (p : Pixel). withAlpha p 255) (c .before .before .before .before .before .of-pixel2 .ensures)) _ (c .before .before .put-three .ensures)
 
 sub-limit : tie.Need-sub-limit Inv-loop μ-loop
 sub-limit c = some-brought (c .before .before .before .before .before)
@@ -126,7 +126,7 @@ loop-again-3 c =
 returns-2 : tie.Need-returns-2 Inv-loop μ-loop
 returns-2 c =
     let l = c .before .before .loop in
-    rw (c .unpack3 .ensures, ← c .before .before .before .before .packed .ensures)
+    rw (c .unpack3 .ensures, ← c .before .before .before .before .of-pixel .ensures)
     (sym (ends-bound _ _ _ _ _ _ _ _ _ _ _ _ _ _ _ (l .inv) (c .before .loop-test .left) (c .before .before .before .before .before .before .before .before .before .before .args .header) (of-header (c .before .before .before .before .before .before .before))))
 
 pub walk-three-spec : {M : Type 1} → statement M
