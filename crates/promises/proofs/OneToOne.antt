@@ -77,7 +77,7 @@ place-determined a b same =
 pub walk-determined : (a b : Walked) (o o′ : List ℕ) → walkOf a o ≡ walkOf b o′ → (a ≡ b) × (o ≡ o′)
 walk-determined a b o o′ same =
     let place = place-determined (a .place) (b .place) (ap (λ (w : Walk). w .place) same) in
-    (λ i. record { cut = same i .cut; left = same i .left; place = place i }, ap (λ (w : Walk). w .out) same)
+    (λ i. record { cut = same i .cut; spare = same i .spare; place = place i }, ap (λ (w : Walk). w .out) same)
 
 -- a start is its answer and its state
 pub started-determined : (a b : Started) → a .answer ≡ b .answer → stateOf (a .decoder) ≡ stateOf (b .decoder) → a ≡ b

@@ -46,7 +46,7 @@ module _ (header : Header) (wanted : ℕ) (m : List ℕ) where
   abbrev pub ranWalk : Walk → Ran
   ranWalk w =
       cond (w .cut) (ended (refused UnexpectedBufferEnd) (stateAt header wanted (w .place)) (w .out))
-      (stood (w .left) (stateAt header wanted (w .place)) (w .out))
+      (stood (w .spare) (stateAt header wanted (w .place)) (w .out))
 
 -- a well-formed state's pixel is not past the picture
 pub well-within : (s : State) → T (wellFormed s) → s .place .pixel ≤ pixelCount (s .header)
@@ -176,7 +176,7 @@ module _ (m : List ℕ) where
 
 -- more of an output, before what a walk was handed
 abbrev pub beneath : List ℕ → Walk → Walk
-beneath before w = record { cut = w .cut; left = w .left; place = w .place; out = before ++ w .out }
+beneath before w = record { cut = w .cut; spare = w .spare; place = w .place; out = before ++ w .out }
 
 -- bytes put beyond the first ones
 pasted-beneath :
@@ -362,15 +362,15 @@ module _ (header : Header) (wanted : ℕ) (m out : List ℕ) (from : ℕ) (w : W
   answers-cut short = rw back (sym (rw short at ran))
 
   -- no step is left
-  pub answers-more : w .cut ≡ false → w .left ≡ 0 → going (stateAt header wanted (w .place)) left-out ≡ r
+  pub answers-more : w .cut ≡ false → w .spare ≡ 0 → going (stateAt header wanted (w .place)) left-out ≡ r
   unfolding stood
   answers-more whole none = rw back (sym (rw (whole, none) at ran))
 
   -- the marker test
   pub answers-end :
-      w .cut ≡ false → (w .left ≡ 0 → ⊥) → (size : ℕ) → size ≡ sizeWanted header wanted
+      w .cut ≡ false → (w .spare ≡ 0 → ⊥) → (size : ℕ) → size ≡ sizeWanted header wanted
       → (a : StepAnswer) → a ≡ endAnswer (closing size m (w .place .at)) → ranBy a (stateAt header wanted (w .place)) left-out ≡ r
   answers-end whole some size counted a is =
       rw (back, is, counted)
       (end-ran (closing (sizeWanted header wanted) m (w .place .at)) (stateAt header wanted (w .place)) (take from out ++ w .out)
-      ∙ sym (rw whole at ran ∙ stood-end header wanted m (w .left) (stateAt header wanted (w .place)) (take from out ++ w .out) some))
+      ∙ sym (rw whole at ran ∙ stood-end header wanted m (w .spare) (stateAt header wanted (w .place)) (take from out ++ w .out) some))

@@ -98,7 +98,7 @@ fn go_on(decoder: Decoder, message: &[u8], out: &mut [u8], steps: usize, require
             decoder: next,
         };
     }
-    if walked.left == 0 {
+    if walked.spare == 0 {
         return Stepped {
             answer: StepAnswer::More,
             decoder: next,

@@ -20,27 +20,27 @@ placeOf p = record { at = p .at; pixel = p .pixel; current = p .current; slots =
 -- whether the next chunk is cut short, how many more were allowed, where it stands, and the output
 pub record Walk : Type 0 where
   pub cut : Bool
-  pub left : ℕ
+  pub spare : ℕ
   pub place : rules.Place
   pub out : List ℕ
 
 -- what an answer and the output at exit are
 abbrev pub walkOf : Walked → List ℕ → Walk
-walkOf w out = record { cut = w .cut; left = w .left; place = placeOf (w .place); out = out }
+walkOf w out = record { cut = w .cut; spare = w .spare; place = placeOf (w .place); out = out }
 
--- it stands, with `left` more allowed
+-- it stands, with `spare` more allowed
 abbrev pub standing : ℕ → rules.Place → List ℕ → Walk
-standing left place out = record { cut = false; left = left; place = place; out = out }
+standing spare place out = record { cut = false; spare = spare; place = place; out = out }
 
 -- it stands before a chunk that is cut short
 abbrev pub stopped : ℕ → rules.Place → List ℕ → Walk
-stopped left place out = record { cut = true; left = left; place = place; out = out }
+stopped spare place out = record { cut = true; spare = spare; place = place; out = out }
 
 module _ (header : Header) (wanted : ℕ) (message : List ℕ) (from : ℕ) where
   -- a move, and then those that follow it; where a pixel is missing, only a chunk that is cut short ends
   abbrev pub walkOn : (rules.Place → List ℕ → Walk) → ℕ → rules.Place → List ℕ → Move → Walk
-  walkOn next left place out (more place′ bytes) = next place′ (pasted ((place .pixel - from) * wanted) bytes out)
-  walkOn next left place out (end answer) = stopped left place out
+  walkOn next spare place out (more place′ bytes) = next place′ (pasted ((place .pixel - from) * wanted) bytes out)
+  walkOn next spare place out (end answer) = stopped spare place out
 
   -- at most n chunks, while a pixel is missing
   unfoldable pub walking : ℕ → rules.Place → List ℕ → Walk

@@ -41,7 +41,7 @@ pub fn walk_four(
             Found::Cut => {
                 return Walked {
                     cut: true,
-                    left: limit - done,
+                    spare: limit - done,
                     place: Place {
                         at,
                         pixel: from + done,
@@ -80,7 +80,7 @@ pub fn walk_four(
     }
     Walked {
         cut: false,
-        left: limit - done,
+        spare: limit - done,
         place: Place {
             at,
             pixel: from + done,

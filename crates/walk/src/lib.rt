@@ -21,7 +21,7 @@ pub struct Place {
 // Where some chunks led, how many more were allowed, and whether the next one is cut short.
 pub struct Walked {
     pub cut: bool,
-    pub left: usize,
+    pub spare: usize,
     pub place: Place,
 }
 
@@ -48,7 +48,7 @@ pub fn walk(
     ) {
         return Walked {
             cut: false,
-            left: steps,
+            spare: steps,
             place,
         };
     }

@@ -40,7 +40,7 @@ pub fn walk_three(
             Found::Cut => {
                 return Walked {
                     cut: true,
-                    left: limit - done,
+                    spare: limit - done,
                     place: Place {
                         at,
                         pixel: from + done,
@@ -78,7 +78,7 @@ pub fn walk_three(
     }
     Walked {
         cut: false,
-        left: limit - done,
+        spare: limit - done,
         place: Place {
             at,
             pixel: from + done,
