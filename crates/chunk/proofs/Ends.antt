@@ -8,7 +8,8 @@ use lib.Dec.{ltb}
 use lib.ListN.{length, take, drop}
 use Rattle.chunk.specs.Found.{endingAt, closedBy}
 use Rattle.chunk.specs.declared.Ending.the-variants as ending
-use Rattle.rules.specs.Reading.{closing, sameBytes, marker}
+use Rattle.rules.specs.Bytes.{sameBytes}
+use Rattle.rules.specs.Reading.{closing, marker}
 
 -- the marker test at a place is that of the part from there on
 pub closing-by : (size : ℕ) (message : List ℕ) (at : ℕ) → closing size message at ≡ closedBy size at (endingAt (drop at message))

@@ -10,7 +10,8 @@ use Rattle.chunk.specs.declared.Found.{Found}
 use Rattle.chunk.specs.declared.Found.the-variants as found
 use Rattle.rules.specs.Chunk.{Chunk, INDEX, DIFF, LUMA, RUN, RGB, RGBA, Stuck, cut, chunk}
 use Rattle.rules.specs.Chunk as rules
-use Rattle.rules.specs.Reading.{Answer, done, refused, marker, sameBytes}
+use Rattle.rules.specs.Bytes.{sameBytes}
+use Rattle.rules.specs.Reading.{Answer, done, refused, marker}
 use Rattle.pixel.specs.declared.error.Error.the-variants.{UnexpectedBufferEnd, InvalidPadding}
 use Rattle.chunk.specs.declared.Ending.{Ending}
 use Rattle.chunk.specs.declared.Ending.the-variants as ending

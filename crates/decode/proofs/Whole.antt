@@ -15,7 +15,8 @@ use Rattle.header.specs.declared.HeaderRead.the-variants as header-read
 use Rattle.header.specs.Header.{headerOf}
 use Rattle.header.proofs.Laws.{pixels-small}
 use Rattle.rules.specs.Reading.{Answer, refused, silent, afterWanted, afterHeader, wholeReading}
-use Rattle.rules.specs.Decode.{decoder, decoding, writtenOver}
+use Rattle.rules.specs.Bytes.{writtenOver}
+use Rattle.rules.specs.Decode.{decoder, decoding}
 use Rattle.rules.specs.Step.{State, started, notStarted, startWanted, startHeader, starting, going, ended, running}
 use Rattle.rules.proofs.RecordLaws.{formed}
 use Rattle.demands.specs.TakeOver.{begun, EndsAsUncut}

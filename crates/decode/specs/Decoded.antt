@@ -12,7 +12,8 @@ use Rattle.header.specs.declared.HeaderRead.{HeaderRead}
 use Rattle.header.specs.declared.HeaderRead.the-variants as header-read
 use Rattle.header.specs.Header.{headerOf}
 use Rattle.rules.specs.Reading.{Answer, done, refused}
-use Rattle.rules.specs.Decode.{decoding, writtenOver, restOf}
+use Rattle.rules.specs.Bytes.{writtenOver}
+use Rattle.rules.specs.Decode.{decoding, restOf}
 
 -- bytes written and message bytes used, or a refusal
 abbrev pub answerOf : Decoded → Answer

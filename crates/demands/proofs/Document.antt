@@ -20,7 +20,8 @@ use Rattle.header.specs.declared.Header.{Header}
 use Rattle.header.specs.Header.{pixelCount}
 use Rattle.header.proofs.Laws.{both}
 use Rattle.rules.specs.Chunk.{Chunk, Found, cut, chunk, chunkAt, colourOf, sizeOf, INDEX, DIFF, LUMA, RUN, RGB, RGBA, Stuck}
-use Rattle.rules.specs.Reading.{Place, done, refused, Reading, Move, more, end, after, silent, readOn, repeated, closing, startPlace, sizeWanted, pixelsBrought, pixelAfter, placeAfter, bytesOf, moveBy, move, reading, readingInto}
+use Rattle.rules.specs.Bytes.{repeated}
+use Rattle.rules.specs.Reading.{Place, done, refused, Reading, Move, more, end, after, silent, readOn, closing, startPlace, sizeWanted, pixelsBrought, pixelAfter, placeAfter, bytesOf, moveBy, move, reading, readingInto}
 use Rattle.rules.specs.Decode.{decoder, decoderStores, decoderKeeps, decoderReadsRgba}
 use Rattle.rules.specs.Trace.{ownChannels, visitsOn, chunkDue, visits}
 use Rattle.rules.specs.Document.{document, namesFilled, filledAfter, filledIn, indexesFilled}

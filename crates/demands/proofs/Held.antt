@@ -13,7 +13,8 @@ use Rattle.pixel.specs.declared.error.Error.the-variants.{OutputBufferTooSmall}
 use Rattle.header.specs.Header.{pixelCount}
 use Rattle.rules.specs.Chunk.{Chunk}
 use Rattle.rules.specs.Reading.{Answer, refused, Move}
-use Rattle.rules.specs.Decode.{decoder, decoding, writtenOver}
+use Rattle.rules.specs.Bytes.{writtenOver}
+use Rattle.rules.specs.Decode.{decoder, decoding}
 use Rattle.rules.specs.Step.{State, Step, more, end, step, steppedOver}
 use Rattle.rules.proofs.ChunkLaws.{Sound}
 use Rattle.rules.proofs.PastingLaws.{take-pasted, drop-pasted, beyond-pasted, length-pasted}

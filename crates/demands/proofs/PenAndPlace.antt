@@ -20,7 +20,8 @@ use Rattle.pixel.specs.Types.{channelsNumber}
 use Rattle.header.specs.declared.Header.{Header}
 use Rattle.header.specs.Header.{pixelCount}
 use Rattle.rules.specs.Chunk.{Chunk, colourOf, timesOf, sizeOf, INDEX, RUN}
-use Rattle.rules.specs.Reading.{Way, Place, Move, after, readOn, repeated, startPlace, pixelsBrought, pixelAfter, placeAfter, bytesOf, moveBy, move, remaining}
+use Rattle.rules.specs.Bytes.{repeated}
+use Rattle.rules.specs.Reading.{Way, Place, Move, after, readOn, startPlace, pixelsBrought, pixelAfter, placeAfter, bytesOf, moveBy, move, remaining}
 use Rattle.rules.specs.Decode.{decoder, decoderStores, decoderKeeps, decoderReadsRgba}
 use Rattle.rules.specs.Document.{document}
 use Rattle.rules.specs.Encode.{Pen, startPen, runEnded, slotHolds, differingChunk, colourChunk, chunkBytes, chunksBytes}

@@ -16,7 +16,8 @@ use Rattle.pixel.specs.Types.{channelsNumber}
 use Rattle.header.specs.declared.Header.{Header}
 use Rattle.header.specs.Header.{pixelCount}
 use Rattle.rules.specs.Chunk.{Chunk, RUN}
-use Rattle.rules.specs.Reading.{Way, Place, Reading, done, marker, after, repeated, sameBytes, closing, sizeWanted, reading, remaining}
+use Rattle.rules.specs.Bytes.{repeated, sameBytes}
+use Rattle.rules.specs.Reading.{Way, Place, Reading, done, marker, after, closing, sizeWanted, reading, remaining}
 use Rattle.rules.specs.Encode.{Pen, runEnded, differingChunk, runWritten, pixelChunks, withRun, withPixel, penAfter, isLast, chunksFrom, chunkBytes, chunksBytes}
 use Rattle.rules.proofs.EncodeLaws.{Whole, Wholes, same-is, or-split, chunks-append}
 use Rattle.rules.proofs.PenLaws.{Penned, held-back, run-written, differs, penned}

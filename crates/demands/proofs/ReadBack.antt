@@ -8,15 +8,16 @@ use native.Mathlib.Omega.{arith}
 use borrow.Author.Tests.{le-ltb}
 use lib.Dec.{T}
 use lib.ListN.{length}
-use Rattle.pixel.specs.Bytes.{AllBytes}
+use Rattle.pixel.specs.Bytes.{AllBytes, pixelsFrom}
 use Rattle.pixel.specs.Types.{channelsNumber}
 use Rattle.header.specs.declared.Header.{Header}
 use Rattle.header.specs.Header.{pixelCount, dimensionsFit}
 use Rattle.header.proofs.Laws.{channels-number, channels-read-back}
-use Rattle.rules.specs.Reading.{Way, repeated, sizeWanted, startPlace, remaining, readingInto, afterWanted, afterHeader, wholeReading}
+use Rattle.rules.specs.Bytes.{repeated}
+use Rattle.rules.specs.Reading.{Way, sizeWanted, startPlace, remaining, readingInto, afterWanted, afterHeader, wholeReading}
 use Rattle.rules.specs.Decode.{decoder}
 use Rattle.rules.specs.Document.{document}
-use Rattle.rules.specs.Encode.{startPen, pixelsFrom, chunksOf, streamOf, encoded, encoding}
+use Rattle.rules.specs.Encode.{startPen, chunksOf, streamOf, encoded, encoding}
 use Rattle.rules.proofs.PictureLaws.{every-byte, pixels-whole, pixels-count, pixels-written, three-at-least, stream-fits}
 use Rattle.demands.specs.ReadBack.{pictureRead, ReadBack, Encoded}
 use Rattle.demands.proofs.PixelsRead.{pixels-read}

@@ -8,7 +8,7 @@ use native.Mathlib.Omega.{arith}
 use lib.Dec.{T}
 use lib.ListN.{length}
 use lib.Seq.{drop-length}
-use Rattle.pixel.specs.Bytes.{AllBytes}
+use Rattle.pixel.specs.Bytes.{AllBytes, pixelsFrom}
 use Rattle.pixel.specs.Types.{channelsNumber}
 use Rattle.header.specs.declared.Header.{Header}
 use Rattle.header.specs.Header.{pixelCount}
@@ -17,7 +17,7 @@ use Rattle.rules.specs.Decode.{restOf}
 use Rattle.rules.specs.Trace.{ownChannels}
 use Rattle.rules.specs.Strict.{accepted, strict, runsFit, chunkCount}
 use Rattle.rules.specs.Document.{indexesFilled}
-use Rattle.rules.specs.Encode.{chunksOf, streamOf, pixelsFrom, encoded, encoding}
+use Rattle.rules.specs.Encode.{chunksOf, streamOf, encoded, encoding}
 use Rattle.rules.proofs.PictureLaws.{every-byte, pixels-whole}
 use Rattle.demands.specs.Streams.{PictureOf, StrictAccepts, KeepsFilled, WroteStrictly}
 use Rattle.demands.proofs.Strict.{strict-must-accept}

@@ -24,7 +24,8 @@ use Rattle.header.specs.declared.HeaderRead.{HeaderRead}
 use Rattle.header.specs.declared.HeaderRead.the-variants as header-read
 use Rattle.header.specs.Header.{pixelCount, headerOf}
 use Rattle.rules.specs.Chunk.{Chunk, Found, cut, chunk, chunkAt, timesOf, sizeOf, INDEX, DIFF, LUMA, RUN, RGB, RGBA, Stuck}
-use Rattle.rules.specs.Reading.{Place, Answer, done, refused, Move, silent, readOn, marker, sameBytes, closing, startPlace, sizeWanted, pixelsBrought, placeAfter, moveBy, move, reading, remaining, readingInto, afterWanted, afterHeader, wholeReading}
+use Rattle.rules.specs.Bytes.{sameBytes}
+use Rattle.rules.specs.Reading.{Place, Answer, done, refused, Move, silent, readOn, marker, closing, startPlace, sizeWanted, pixelsBrought, placeAfter, moveBy, move, reading, remaining, readingInto, afterWanted, afterHeader, wholeReading}
 use Rattle.rules.specs.Decode.{decoder, decoderReadsRgba, decoding, restOf}
 use Rattle.rules.specs.Trace.{Visit, ownChannels, visitsOn, chunkDue, visits, trace}
 use Rattle.rules.specs.Strict.{StrictAnswer, accepted, rejected, Tally, more, end, checkOn, strictClosed, strictClosing, strictCounted, strictBy, strictMove, strictFrom, strictHeader, strict, runsFitIn, chunkCount}

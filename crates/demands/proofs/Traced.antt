@@ -11,7 +11,7 @@ use lib.Dec.{T, eqb}
 use lib.ListN.{length, drop}
 use lib.Seq.{drop-at, drop-drop}
 use Rattle.pixel.specs.declared.Pixel.{Pixel}
-use Rattle.pixel.specs.Bytes.{AllBytes}
+use Rattle.pixel.specs.Bytes.{AllBytes, pixelsFrom}
 use Rattle.pixel.specs.Colour.{red, green, blue, alpha, wrappedDifference}
 use Rattle.pixel.specs.Types.{channelsNumber}
 use Rattle.header.specs.declared.Header.{Header}
@@ -23,7 +23,7 @@ use Rattle.rules.specs.Reading.{Place, marker, startPlace, pixelsBrought, place
 use Rattle.rules.specs.Decode.{decoder, decoderReadsRgba}
 use Rattle.rules.specs.Trace.{Visit, ownChannels, visitsOn, chunkDue, visits, trace}
 use Rattle.rules.specs.Strict.{runsFitIn}
-use Rattle.rules.specs.Encode.{Pen, startPen, colourChunk, diffChunk, lumaChunk, fitsDiff, fitsLuma, penAfter, isLast, chunksFrom, chunkBytes, chunksBytes, pixelsFrom, chunksOf, streamOf}
+use Rattle.rules.specs.Encode.{Pen, startPen, colourChunk, diffChunk, lumaChunk, fitsDiff, fitsLuma, penAfter, isLast, chunksFrom, chunkBytes, chunksBytes, chunksOf, streamOf}
 use Rattle.rules.proofs.EncodeLaws.{Writable, or-split, chunk-read-back, chunk-length}
 use Rattle.rules.proofs.PenLaws.{Ended, no-run, as-index, as-run, ended, Differing, by-slot, by-colour, differing, Penned, held-back, run-written, differs, penned, Writables}
 use Rattle.rules.proofs.PictureLaws.{pixels-count, picture-writable}

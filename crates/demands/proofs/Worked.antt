@@ -13,7 +13,8 @@ use Rattle.pixel.specs.Colour.{startPixel, clearPixel, slotOf}
 use Rattle.header.specs.declared.Header.{Header}
 use Rattle.header.specs.Header.{headerBytes, headerFrom, afterColorSpace, afterChannels, headerOf}
 use Rattle.rules.specs.Chunk.{chunkFrom, chunkAt, colourOf, timesOf, sizeOf}
-use Rattle.rules.specs.Reading.{done, marker, sameBytes, repeated, closing, startPlace, pixelsBrought, pixelAfter, placeAfter, bytesOf, moveBy, move, reading, readingInto, afterWanted, afterHeader, wholeReading}
+use Rattle.rules.specs.Bytes.{sameBytes, repeated}
+use Rattle.rules.specs.Reading.{done, marker, closing, startPlace, pixelsBrought, pixelAfter, placeAfter, bytesOf, moveBy, move, reading, readingInto, afterWanted, afterHeader, wholeReading}
 use Rattle.rules.specs.Decode.{decoderStores, decoderKeeps, decoderReadsRgba}
 use Rattle.rules.specs.Step.{State, wellFormed, startWanted, startHeader, starting, stepBy, step, Ran, ended, running, outputOf}
 use Rattle.demands.specs.TakeOver.{Life, begun, stepped, taken-up, stepsLeft, EndsAsUncut}

@@ -10,7 +10,7 @@ use lib.ListN.{length, take, drop}
 use lib.Seq.{take-at}
 use Rattle.pixel.specs.declared.error.Error.{Error}
 use Rattle.pixel.specs.declared.error.Error.the-variants.{BadState, OutputBufferTooSmall}
-use Rattle.rules.specs.Decode.{writtenOver}
+use Rattle.rules.specs.Bytes.{writtenOver}
 use Rattle.rules.specs.Step.{State, wellFormed}
 use Rattle.rules.specs.Record.{recorded, notRecorded, recordBytes, recording, recordedOver}
 

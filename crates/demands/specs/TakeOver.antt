@@ -4,7 +4,8 @@ use mathlib.Core.Path.{_≡_}
 use Prim.Native.Nat.{ℕ, _+_, _-_, _*_, _^_, _<_}
 use lib.ListN.{length, take}
 use Rattle.header.specs.Header.{pixelCount}
-use Rattle.rules.specs.Decode.{decoding, writtenOver}
+use Rattle.rules.specs.Bytes.{writtenOver}
+use Rattle.rules.specs.Decode.{decoding}
 use Rattle.rules.specs.Step.{State, started, starting, more, step, steppedOver, Ran, going, ended, running}
 use Rattle.rules.specs.Record.{recordBytes, readRecord}
 

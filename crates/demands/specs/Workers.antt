@@ -7,7 +7,8 @@ use Prim.Native.Nat.{ℕ, _^_, _≤_, _<_}
 use lib.ListN.{length, getD, take}
 use Rattle.header.specs.Header.{pixelCount}
 use Rattle.rules.specs.Reading.{Answer}
-use Rattle.rules.specs.Decode.{decoding, writtenOver}
+use Rattle.rules.specs.Bytes.{writtenOver}
+use Rattle.rules.specs.Decode.{decoding}
 use Rattle.rules.specs.Step.{State, started, starting, more, end, step, steppedOver}
 use Rattle.rules.specs.Record.{recordBytes, readRecord}
 use Rattle.demands.specs.TakeOver.{bytesBefore}

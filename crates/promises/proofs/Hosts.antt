@@ -14,7 +14,8 @@ use Rattle.pixel.specs.Refusal.{numberOf}
 use Rattle.header.specs.Header.{pixelCount}
 use Rattle.header.proofs.Laws.{is-true}
 use Rattle.rules.specs.Reading.{Answer, done, refused}
-use Rattle.rules.specs.Decode.{decoding, writtenOver}
+use Rattle.rules.specs.Bytes.{writtenOver}
+use Rattle.rules.specs.Decode.{decoding}
 use Rattle.rules.specs.Figures.{answerFigures}
 use Rattle.rules.specs.Step.{State, wellFormed, Started, started, notStarted, starting, Ran, going, ended, outputOf, running}
 use Rattle.rules.specs.Record.{Recorded, recorded, notRecorded, recording, recordedOver, recordBytes, readRecord}

@@ -5,7 +5,8 @@ use mathlib.Core.Path.{_≡_}
 use Prim.Native.Nat.{ℕ, _+_, _^_, _≤_, _<_}
 use lib.ListN.{length, getD, take}
 use Rattle.pixel.specs.declared.error.Error.{Error}
-use Rattle.rules.specs.Decode.{decoding, writtenOver}
+use Rattle.rules.specs.Bytes.{writtenOver}
+use Rattle.rules.specs.Decode.{decoding}
 use Rattle.rules.specs.Figures.{answerFigures, refusalFigures}
 use Rattle.rules.specs.Step.{State, started, notStarted, starting}
 use Rattle.rules.specs.Record.{readRecord}

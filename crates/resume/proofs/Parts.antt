@@ -11,7 +11,7 @@ use borrow.Rule.Slice.PartMut.{putMid, post-is}
 use Rattle.number.specs.Seven.{sevenBits, writtenNumber}
 use Rattle.header.specs.Header.{headerBytes}
 use Rattle.header.proofs.Laws.{header-length}
-use Rattle.rules.specs.Reading.{pasted}
+use Rattle.rules.specs.Bytes.{pasted}
 use Rattle.rules.specs.Step.{State}
 use Rattle.rules.specs.Record.{pixelsBytes, recordBytes}
 use Rattle.rules.proofs.PastingLaws.{whole-tail, stored, pasted-next}

@@ -19,7 +19,8 @@ use Rattle.header.specs.declared.Header.{Header}
 use Rattle.header.specs.Header.{pixelCount, dimensionsFit}
 use Rattle.header.proofs.Laws.{is-true}
 use Rattle.rules.specs.Chunk.{Chunk, Found, cut, chunk, chunkAt}
-use Rattle.rules.specs.Reading.{Place, Answer, done, refused, Move, closing, sizeWanted, move, moveBy, pasted, placeAfter, bytesOf}
+use Rattle.rules.specs.Bytes.{pasted}
+use Rattle.rules.specs.Reading.{Place, Answer, done, refused, Move, closing, sizeWanted, move, moveBy, placeAfter, bytesOf}
 use Rattle.rules.specs.Decode.{decoder, decoderReadsRgba}
 use Rattle.rules.specs.Step.{State, wellFormed, Step, more, end, stepBy, step, steppedOver, Ran, going, ended, runOn, running}
 use Rattle.rules.proofs.ChunkLaws.{no-row, Sound, sound-of, sound-found}

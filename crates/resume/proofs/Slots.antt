@@ -7,7 +7,7 @@ use native.Mathlib.Omega.{arith}
 use lib.ListN.{length, getD, drop, length-append}
 use lib.Seq.{drop-cons, drop-drop}
 use Rattle.pixel.specs.declared.Pixel.{Pixel}
-use Rattle.rules.specs.Encode.{pixelFrom, pixelsFrom}
+use Rattle.pixel.specs.Bytes.{pixelFrom, pixelsFrom}
 use Rattle.rules.specs.Record.{pixelsBytes}
 
 -- one pixel more is the one after the others

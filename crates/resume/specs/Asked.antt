@@ -7,7 +7,8 @@ use lib.Dec.{T, eqb}
 use lib.ListN.{length}
 use Rattle.number.specs.Seven.{readNumber}
 use Rattle.header.specs.declared.Header.{Header}
-use Rattle.rules.specs.Reading.{pasted, sizeWanted}
+use Rattle.rules.specs.Bytes.{pasted}
+use Rattle.rules.specs.Reading.{sizeWanted}
 use Rattle.rules.specs.Step.{State, wellFormed, Started}
 use Rattle.rules.specs.Record.{afterNumber, readSlots}
 

@@ -3,7 +3,7 @@ ghost use mathlib.Core.Path.{_≡_};
 ghost use Prim.Native.Nat.{_+_, _≤_};
 ghost use lib.ListN.{length, drop};
 ghost use Rattle.header.specs.declared.HeaderRead.the-variants as headerRead;
-ghost use Rattle.rules.specs.Encode.{pixelFrom, pixelsFrom};
+ghost use Rattle.pixel.specs.Bytes.{pixelFrom, pixelsFrom};
 ghost use Rattle.rules.specs.Record.{readWanted, readPositions, readSlots, readEnd};
 ghost use Rattle.resume.specs.Asked.{fromAt, fromPixel};
 ghost use Rattle.resume.specs.State.{stateOf, Answers};

@@ -8,7 +8,7 @@ use native.Mathlib.Nat.{add-assoc, add-zero, suc-mul, zero-mul}
 use native.Mathlib.Omega.{arith}
 use lib.ListN.{length, take, drop, length-append, length-take, length-drop, take-append-drop}
 use lib.Seq.{sets, sets-eq, length-take-le, take-all, take-at, drop-at, drop-drop}
-use Rattle.rules.specs.Reading.{pasted, repeated}
+use Rattle.rules.specs.Bytes.{pasted, repeated}
 
 -- all that follows a place is all that follows it
 pub whole-tail : (l : List ℕ) (n : ℕ) → take (length l - n) (drop n l) ≡ drop n l

@@ -15,13 +15,13 @@ use lib.Seq.{getD-drop}
 use Rattle.pixel.specs.declared.Pixel.{Pixel}
 use Rattle.pixel.specs.declared.types.Channels.{Channels}
 use Rattle.pixel.specs.declared.types.Channels.the-variants.{Rgb, Rgba}
-use Rattle.pixel.specs.Bytes.{AllBytes}
+use Rattle.pixel.specs.Bytes.{AllBytes, pixelFrom, pixelsFrom}
 use Rattle.pixel.specs.Types.{channelsNumber}
 use Rattle.header.specs.declared.Header.{Header}
 use Rattle.header.specs.Header.{pixelCount, dimensionsFit, encodedRoom}
 use Rattle.header.proofs.Laws.{header-length, pixels-small}
 use Rattle.rules.specs.Chunk.{Chunk, chunk, chunkAt}
-use Rattle.rules.specs.Encode.{startPen, chunkBytes, pixelFrom, pixelsFrom, chunksOf, streamOf}
+use Rattle.rules.specs.Encode.{startPen, chunkBytes, chunksOf, streamOf}
 use Rattle.rules.proofs.EncodeLaws.{Writable, chunk-read-back, Wholes, start-whole}
 use Rattle.rules.proofs.PenLaws.{Writables, chunks-size, chunks-writable}
 

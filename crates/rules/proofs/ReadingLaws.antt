@@ -16,7 +16,8 @@ use Rattle.pixel.specs.Types.{channelsNumber}
 use Rattle.rules.specs.Chunk.{Chunk, Found, chunkAt, timesOf}
 use Rattle.rules.proofs.ChunkLaws.{Sound, SoundFound, nothing, something, sound-found}
 use Rattle.rules.proofs.PastingLaws.{repeated-length}
-use Rattle.rules.specs.Reading.{Way, Place, Answer, Move, Reading, more, end, after, remaining, readOn, repeated, closing, sizeWanted, pixelsBrought, pixelAfter, placeAfter, bytesOf, moveBy, move, reading}
+use Rattle.rules.specs.Bytes.{repeated}
+use Rattle.rules.specs.Reading.{Way, Place, Answer, Move, Reading, more, end, after, remaining, readOn, closing, sizeWanted, pixelsBrought, pixelAfter, placeAfter, bytesOf, moveBy, move, reading}
 
 -- bytes written n times over are at most n times their bound
 repeated-size : (n : ℕ) (bytes : List ℕ) {bound : ℕ} → length bytes ≤ bound → length (repeated n bytes) ≤ n * bound

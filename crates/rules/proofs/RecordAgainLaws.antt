@@ -14,7 +14,7 @@ use Rattle.pixel.specs.declared.error.Error.{Error}
 use Rattle.pixel.specs.declared.types.ChannelsRead.{ChannelsRead}
 use Rattle.pixel.specs.declared.types.ChannelsRead.the-variants as channels-read
 use Rattle.pixel.specs.declared.types.Channels.the-variants.{Rgba}
-use Rattle.pixel.specs.Bytes.{AllBytes}
+use Rattle.pixel.specs.Bytes.{AllBytes, pixelFrom, pixelsFrom}
 use Rattle.pixel.specs.Types.{channelsFrom}
 use Rattle.number.specs.declared.NumberRead.{NumberRead}
 use Rattle.number.specs.declared.NumberRead.the-variants as number-read
@@ -25,7 +25,6 @@ use Rattle.header.specs.declared.HeaderRead.the-variants as header-read
 use Rattle.header.specs.Header.{headerBytes, headerOf}
 use Rattle.number.proofs.Laws.{read-written-back}
 use Rattle.header.proofs.Laws.{channels-number, header-written-back}
-use Rattle.rules.specs.Encode.{pixelFrom, pixelsFrom}
 use Rattle.rules.specs.Step.{State, wellFormed, Started, started, notStarted}
 use Rattle.rules.specs.Record.{pixelsBytes, recordBytes, afterNumber, readEnd, readSlots, readPositions, readWanted, readRecord}
 use Rattle.rules.proofs.RecordLaws.{refused-is-no-start, sized}

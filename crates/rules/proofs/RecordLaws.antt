@@ -20,7 +20,7 @@ use Rattle.number.specs.Seven.{sevenBits}
 use Rattle.header.specs.Header.{headerBytes, pixelCount}
 use Rattle.number.proofs.Laws.{read-written, rest-after-written, length-at-least-one, length-at-most-ten, length-one, length-at-most-five}
 use Rattle.header.proofs.Laws.{is-true, both, pixels-small, header-read-back, header-length}
-use Rattle.rules.specs.Encode.{pixelFrom, pixelsFrom}
+use Rattle.pixel.specs.Bytes.{pixelFrom, pixelsFrom}
 use Rattle.rules.specs.Step.{State, Typed, headerPasses, wantedPasses, atPasses, pixelPasses, alphaPasses, wellFormed, started, notStarted}
 use Rattle.rules.specs.Record.{pixelsBytes, recordBytes, afterNumber, readEnd, readSlots, readPositions, readWanted, readRecord}
 

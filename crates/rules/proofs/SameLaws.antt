@@ -7,7 +7,7 @@ use Prim.Native.Nat.{ℕ, zero, suc, _<_}
 use native.Mathlib.Omega.{arith}
 use lib.Dec.{eqb}
 use lib.ListN.{length, getD, take}
-use Rattle.rules.specs.Reading.{sameBytes}
+use Rattle.rules.specs.Bytes.{sameBytes}
 
 -- one more byte of both is the same where that byte is
 pub same-next :

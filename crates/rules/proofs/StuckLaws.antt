@@ -17,7 +17,8 @@ use Rattle.pixel.specs.Types.{channelsNumber}
 use Rattle.header.specs.declared.Header.{Header}
 use Rattle.header.specs.Header.{pixelCount}
 use Rattle.rules.specs.Chunk.{Chunk, Found, cut, chunk, needing, chunkFrom, chunkAt, sizeOf, INDEX, DIFF, LUMA, RUN, RGB, RGBA, Stuck}
-use Rattle.rules.specs.Reading.{Way, Place, refused, end, readOn, marker, sameBytes, closing, sizeWanted, placeAfter, moveBy, move, reading}
+use Rattle.rules.specs.Bytes.{sameBytes}
+use Rattle.rules.specs.Reading.{Way, Place, refused, end, readOn, marker, closing, sizeWanted, placeAfter, moveBy, move, reading}
 use Rattle.rules.proofs.ChunkLaws.{stuck-row, stuck-cut}
 
 -- RGBA only where ff is read, stuck only where it is not

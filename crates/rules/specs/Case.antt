@@ -13,11 +13,13 @@ use Rattle.number.specs.Seven.{sevenBitsOf, sevenBits, groupBelow, readMore, re
 use Rattle.header.specs.declared.Header.{Header}
 use Rattle.header.specs.Header.{headerBytes, headerFrom, afterColorSpace, afterChannels, headerOf}
 use Rattle.rules.specs.Chunk.{chunkFrom, chunkAt, colourOf, timesOf, sizeOf}
-use Rattle.rules.specs.Reading.{Reading, marker, sameBytes, repeated, closing, startPlace, pixelsBrought, pixelAfter, placeAfter, bytesOf, moveBy, move, reading, readingInto, afterWanted, afterHeader, wholeReading}
-use Rattle.rules.specs.Decode.{decoderStores, decoderKeeps, decoderReadsRgba, decoding, writtenOver, restOf}
+use Rattle.rules.specs.Bytes.{sameBytes, repeated, writtenOver}
+use Rattle.rules.specs.Reading.{Reading, marker, closing, startPlace, pixelsBrought, pixelAfter, placeAfter, bytesOf, moveBy, move, reading, readingInto, afterWanted, afterHeader, wholeReading}
+use Rattle.rules.specs.Decode.{decoderStores, decoderKeeps, decoderReadsRgba, decoding, restOf}
 use Rattle.rules.specs.Trace.{Visit, visitsOn, chunkDue, visits, headerTrace, trace}
 use Rattle.rules.specs.Document.{documentReading, namesFilled, filledAfter, filledIn, indexesFilled}
-use Rattle.rules.specs.Encode.{EncodeAnswer, encoded, notEncoded, Encoding, fitsDiff, fitsLuma, diffChunk, lumaChunk, colourChunk, startPen, runEnded, slotHolds, differingChunk, pixelChunks, penAfter, chunksFrom, chunkBytes, chunksBytes, pixelFrom, pixelsFrom, chunksOf, streamOf, encodingInto, afterSpace, afterCount, afterDimensions, encoding}
+use Rattle.pixel.specs.Bytes.{pixelFrom, pixelsFrom}
+use Rattle.rules.specs.Encode.{EncodeAnswer, encoded, notEncoded, Encoding, fitsDiff, fitsLuma, diffChunk, lumaChunk, colourChunk, startPen, runEnded, slotHolds, differingChunk, pixelChunks, penAfter, chunksFrom, chunkBytes, chunksBytes, chunksOf, streamOf, encodingInto, afterSpace, afterCount, afterDimensions, encoding}
 use Rattle.rules.specs.Step.{State, wellFormed, Started, started, notStarted, startWanted, startHeader, starting, Step, stepBy, step, steppedOver, Ran, going, ended, running}
 use Rattle.rules.specs.Record.{pixelsBytes, recordBytes, recording, recordedOver, afterNumber, readEnd, readSlots, readPositions, readWanted, readRecord}
 use Rattle.rules.specs.Strict.{StrictAnswer, strictClosed, strictClosing, strictCounted, strictBy, strictMove, strictFrom, strictHeader, strict, runsFitIn, runsFit, chunkCount}

@@ -5,7 +5,8 @@ use Prim.Native.Nat.{ℕ, _*_}
 use lib.Dec.{T}
 use lib.ListN.{take, replicate}
 use Rattle.pixel.specs.declared.types.Channels.the-variants.{Rgb, Rgba}
-use Rattle.rules.specs.Reading.{marker, repeated}
+use Rattle.rules.specs.Bytes.{repeated}
+use Rattle.rules.specs.Reading.{marker}
 use Rattle.rules.specs.Record.{recordBytes}
 use Rattle.rules.specs.Case.{Case, streams, encodesInto, decodesInto, documentsInto, opens, checks, traces, fills, starts, stepsOn, counts, countsBack, records, readsBack, takesUp, differ, accepted, refusal, onward, held, rgb, rgba, headed, message, encodes, decodes, documents, reads, leaves, stateAt, startState, stateAfter, holds, allHold}
 

@@ -1,10 +1,10 @@
 -- The decoder's rules, the Rust's: which chunks store, what is kept of alpha, when ff is read; the uncut decode; the
 -- rest of a message.
 use mathlib.Core.Bool.{Bool, true, false, cond}
-use mathlib.Core.List.{List, [], _++_}
+use mathlib.Core.List.{List, []}
 use Prim.Native.Nat.{ℕ}
 use lib.Dec.{eqb}
-use lib.ListN.{length, drop}
+use lib.ListN.{drop}
 use Rattle.pixel.specs.declared.Pixel.{Pixel}
 use Rattle.pixel.specs.Colour.{withAlpha}
 use Rattle.rules.specs.Chunk.{Chunk, INDEX, DIFF, LUMA, RUN, RGB, RGBA, Stuck}
@@ -36,10 +36,6 @@ decoder = record { stores = decoderStores; keeps = decoderKeeps; readsRgba = dec
 -- the uncut decode of a message at wanted channels into `room` bytes
 abbrev pub decoding : List ℕ → ℕ → ℕ → Reading
 decoding message wanted room = wholeReading decoder message wanted room
-
--- a lent output at exit: the bytes that were written, then what it held after them
-abbrev pub writtenOver : List ℕ → List ℕ → List ℕ
-writtenOver bytes out = bytes ++ drop (length bytes) out
 
 -- the rest of a message: from 14 + chunk bytes + 8 to the end; after a refusal, the empty part at its end
 unfoldable pub restOf : List ℕ → Answer → List ℕ

@@ -3,9 +3,9 @@
 -- The order of refusals reads from the bottom up: the last definition of it makes the first test.
 use mathlib.Core.Bool.{Bool, true, false, cond, _&&_, _||_}
 use mathlib.Core.List.{List, [], _∷_, _++_}
-use Prim.Native.Nat.{ℕ, zero, suc, _+_, _-_, _*_, _/_, _%_}
+use Prim.Native.Nat.{ℕ, _+_, _-_, _*_, _/_, _%_}
 use lib.Dec.{ltb, eqb}
-use lib.ListN.{length, getD, drop, set, replicate}
+use lib.ListN.{length, getD, set, replicate}
 use Rattle.pixel.specs.declared.Pixel.{Pixel}
 use Rattle.pixel.specs.declared.error.Error.{Error}
 use Rattle.pixel.specs.declared.error.Error.the-variants.{InvalidImageLength, OutputBufferTooSmall}
@@ -13,7 +13,8 @@ use Rattle.pixel.specs.declared.types.ChannelsRead.{ChannelsRead}
 use Rattle.pixel.specs.declared.types.ChannelsRead.the-variants as channels-read
 use Rattle.pixel.specs.declared.types.ColorSpaceRead.{ColorSpaceRead}
 use Rattle.pixel.specs.declared.types.ColorSpaceRead.the-variants as colorspace-read
-use Rattle.pixel.specs.Colour.{pixelOf, red, green, blue, alpha, startPixel, clearPixel, slotOf, samePixel, wrappedSum, wrappedDifference, signedOf, within}
+use Rattle.pixel.specs.Bytes.{pixelsFrom}
+use Rattle.pixel.specs.Colour.{red, green, blue, alpha, startPixel, clearPixel, slotOf, samePixel, wrappedSum, wrappedDifference, signedOf, within}
 use Rattle.pixel.specs.Types.{channelsNumber, channelsFrom, colorSpaceFrom}
 use Rattle.header.specs.declared.Header.{Header}
 use Rattle.header.specs.declared.HeaderRead.{HeaderRead}
@@ -125,16 +126,6 @@ chunkBytes Stuck = []
 unfoldable pub chunksBytes : List Chunk → List ℕ
 chunksBytes [] = []
 chunksBytes (k ∷ ks) = chunkBytes k ++ chunksBytes ks
-
--- the pixel that some bytes start with; with three channels its alpha is 255
-unfoldable pub pixelFrom : ℕ → List ℕ → Pixel
-pixelFrom channels bytes =
-    pixelOf (getD bytes 0 0) (getD bytes 1 0) (getD bytes 2 0) (cond (eqb channels 3) 255 (getD bytes 3 0))
-
--- n pixels
-unfoldable pub pixelsFrom : ℕ → ℕ → List ℕ → List Pixel
-pixelsFrom zero channels bytes = []
-pixelsFrom (suc n) channels bytes = pixelFrom channels bytes ∷ pixelsFrom n channels (drop channels bytes)
 
 -- the chunks of a picture
 unfoldable pub chunksOf : Header → List ℕ → List Chunk

@@ -1,4 +1,5 @@
 -- Document 01 as definitions, one file a section: what an auditor reads first.
+pub mod Bytes
 pub mod Chunk
 pub mod Reading
 pub mod Decode

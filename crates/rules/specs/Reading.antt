@@ -1,9 +1,9 @@
 -- Reading a message chunk by chunk, over a `Way`: the points on which the decoder's rules and the document's differ.
 -- The order of refusals reads from the bottom up: the last definition of it makes the first test.
-use mathlib.Core.Bool.{Bool, true, false, cond, _&&_}
+use mathlib.Core.Bool.{Bool, cond}
 use mathlib.Core.List.{List, [], _∷_, _++_}
 use Prim.Native.Nat.{ℕ, zero, suc, _+_, _-_, _*_, min}
-use lib.Dec.{ltb, eqb}
+use lib.Dec.{ltb}
 use lib.ListN.{length, take, drop, set, replicate}
 use Rattle.pixel.specs.declared.Pixel.{Pixel}
 use Rattle.pixel.specs.declared.error.Error.{Error}
@@ -16,6 +16,7 @@ use Rattle.header.specs.declared.Header.{Header}
 use Rattle.header.specs.declared.HeaderRead.{HeaderRead}
 use Rattle.header.specs.declared.HeaderRead.the-variants as header-read
 use Rattle.header.specs.Header.{pixelCount, headerOf}
+use Rattle.rules.specs.Bytes.{sameBytes, repeated}
 use Rattle.rules.specs.Chunk.{Chunk, Found, cut, chunk, chunkAt, colourOf, timesOf, sizeOf}
 
 -- the points on which two decoders may differ
@@ -65,22 +66,6 @@ readOn next (end answer) = silent answer
 -- seven 00 bytes and one 01
 abbrev pub marker : List ℕ
 marker = 0 ∷ 0 ∷ 0 ∷ 0 ∷ 0 ∷ 0 ∷ 0 ∷ 1 ∷ []
-
--- whether two lists of bytes are the same
-unfoldable pub sameBytes : List ℕ → List ℕ → Bool
-sameBytes [] [] = true
-sameBytes [] (y ∷ ys) = false
-sameBytes (x ∷ xs) [] = false
-sameBytes (x ∷ xs) (y ∷ ys) = eqb x y && sameBytes xs ys
-
--- bytes written n times over
-unfoldable pub repeated : ℕ → List ℕ → List ℕ
-repeated zero bytes = []
-repeated (suc n) bytes = bytes ++ repeated n bytes
-
--- bytes put into an output at a place, and all others as they were
-abbrev pub pasted : ℕ → List ℕ → List ℕ → List ℕ
-pasted at bytes out = take at out ++ (bytes ++ drop (at + length bytes) out)
 
 -- what the message holds after its last chunk: under 8 bytes, refusal 1; not the marker, 8; later bytes are ignored
 unfoldable pub closing : ℕ → List ℕ → ℕ → Answer

@@ -18,8 +18,8 @@ use Rattle.header.specs.declared.Header.{Header}
 use Rattle.header.specs.declared.HeaderRead.{HeaderRead}
 use Rattle.header.specs.declared.HeaderRead.the-variants as header-read
 use Rattle.header.specs.Header.{headerBytes, headerOf}
-use Rattle.rules.specs.Decode.{writtenOver}
-use Rattle.rules.specs.Encode.{pixelFrom, pixelsFrom}
+use Rattle.rules.specs.Bytes.{writtenOver}
+use Rattle.pixel.specs.Bytes.{pixelFrom, pixelsFrom}
 use Rattle.rules.specs.Step.{State, wellFormed, Started, started, notStarted}
 
 -- pixels one after another, four bytes each

@@ -16,7 +16,8 @@ use Rattle.header.specs.declared.Header.{Header}
 use Rattle.header.specs.declared.HeaderRead.{HeaderRead}
 use Rattle.header.specs.declared.HeaderRead.the-variants as header-read
 use Rattle.header.specs.Header.{pixelCount, dimensionsFit, headerOf}
-use Rattle.rules.specs.Reading.{Place, Answer, refused, Move, startPlace, sizeWanted, move, pasted}
+use Rattle.rules.specs.Bytes.{pasted}
+use Rattle.rules.specs.Reading.{Place, Answer, refused, Move, startPlace, sizeWanted, move}
 use Rattle.rules.specs.Decode.{decoder}
 
 -- header, wanted channels, and the place: byte position, pixel position, current pixel, slots

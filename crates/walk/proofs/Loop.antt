@@ -18,7 +18,8 @@ use Rattle.pixel.specs.Types.{channelsNumber}
 use Rattle.header.specs.declared.Header.{Header}
 use Rattle.header.specs.Header.{pixelCount}
 use Rattle.rules.specs.Chunk.{Chunk, chunk, chunkAt, colourOf, timesOf, sizeOf, INDEX, RUN}
-use Rattle.rules.specs.Reading.{Place, more, move, moveBy, pasted, repeated, pixelsBrought, pixelAfter, placeAfter, bytesOf}
+use Rattle.rules.specs.Bytes.{pasted, repeated}
+use Rattle.rules.specs.Reading.{Place, more, move, moveBy, pixelsBrought, pixelAfter, placeAfter, bytesOf}
 use Rattle.rules.specs.Decode.{decoder, decoderStores, decoderKeeps, decoderReadsRgba}
 use Rattle.rules.proofs.ChunkLaws.{Sound, sound-of, sound-found}
 use Rattle.rules.proofs.PastingLaws.{whole-tail, length-pasted, repeated-length}

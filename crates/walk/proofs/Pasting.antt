@@ -6,7 +6,7 @@ use Prim.Native.Nat.{ℕ, zero, suc, _+_, _*_, _≤_}
 use native.Mathlib.Numerals.{towards-suc, add-one}
 use native.Mathlib.Omega.{arith}
 use lib.ListN.{length, set}
-use Rattle.rules.specs.Reading.{pasted, repeated}
+use Rattle.rules.specs.Bytes.{pasted, repeated}
 use Rattle.rules.proofs.PastingLaws.{stored, pasted-next, repeated-length}
 
 -- three bytes and four, stored one after another

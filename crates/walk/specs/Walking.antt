@@ -7,7 +7,8 @@ use lib.Dec.{ltb, leb}
 use lib.ListN.{length}
 use Rattle.header.specs.declared.Header.{Header}
 use Rattle.header.specs.Header.{dimensionsFit, pixelCount}
-use Rattle.rules.specs.Reading.{Move, more, end, move, pasted}
+use Rattle.rules.specs.Bytes.{pasted}
+use Rattle.rules.specs.Reading.{Move, more, end, move}
 use Rattle.rules.specs.Reading as rules
 use Rattle.rules.specs.Decode.{decoder}
 use Rattle.walk.specs.declared.Place.{Place}

@@ -3,7 +3,7 @@ ghost use mathlib.Core.Path.{_≡_};
 ghost use Prim.Native.Nat.{_+_, _*_, _≤_};
 ghost use lib.ListN.{length};
 ghost use Rattle.pixel.specs.Packed.{unpacked};
-ghost use Rattle.rules.specs.Reading.{repeated, pasted};
+ghost use Rattle.rules.specs.Bytes.{repeated, pasted};
 ghost use Rattle.walk.specs.Walking.{placeOf, walkOf, walking};
 ghost use Rattle.walk.specs.Asked.{Fits, fourBytes};
 use crate::Place;

@@ -9,7 +9,8 @@ use native.Mathlib.Omega.{arith}
 use borrow.Author.Needs.{needs}
 use borrow.Author.Tests.{eq-eqb, ne-eqb}
 use lib.ListN.{take}
-use Rattle.rules.specs.Reading.{sameBytes, marker}
+use Rattle.rules.specs.Bytes.{sameBytes}
+use Rattle.rules.specs.Reading.{marker}
 use Rattle.rules.proofs.SameLaws.{same-next}
 use Rattle.chunk.proofs.is_marker.Statement.{statement}
 use Rattle.chunk.proofs.is_marker.Tie as tie

@@ -4,7 +4,7 @@ use mathlib.Core.Path.{_∙_}
 use native.Mathlib.Nat.{add-zero}
 use lib.Seq.{getD-drop}
 use borrow.Author.Needs.{needs}
-use Rattle.rules.specs.Encode.{pixelFrom}
+use Rattle.pixel.specs.Bytes.{pixelFrom}
 use Rattle.resume.proofs.read_record.pixel_at.Statement.{statement}
 use Rattle.resume.proofs.read_record.pixel_at.Tie as tie
 

@@ -10,7 +10,7 @@ use lib.ListN.{length, take, length-set}
 use lib.Seq.{take-suc-set, take-all}
 use borrow.Author.Needs.{needs}
 use Rattle.pixel.specs.declared.Pixel.{Pixel}
-use Rattle.rules.specs.Encode.{pixelsFrom}
+use Rattle.pixel.specs.Bytes.{pixelsFrom}
 use Rattle.resume.proofs.Slots.{pixels-more}
 use Rattle.resume.proofs.read_record.slots_from.Statement.{statement}
 use Rattle.resume.proofs.read_record.slots_from.Tie as tie

@@ -9,7 +9,7 @@ use native.Mathlib.Numerals.{add-one}
 use native.Mathlib.Omega.{arith}
 use lib.ListN.{length, drop, length-set, length-drop, drop-of-length-le}
 use lib.Seq.{drop-cons}
-use Rattle.rules.specs.Reading.{pasted}
+use Rattle.rules.specs.Bytes.{pasted}
 use Rattle.rules.proofs.PastingLaws.{pasted-none}
 use Rattle.resume.proofs.Parts.{stored-next}
 use Rattle.resume.proofs.write_record.put.Statement.{statement}

@@ -8,7 +8,7 @@ use native.Mathlib.Numerals.{add-one}
 use native.Mathlib.Omega.{arith}
 use lib.ListN.{length, getD, drop, drop-of-length-le}
 use borrow.Author.Needs.{needs}
-use Rattle.rules.specs.Reading.{pasted}
+use Rattle.rules.specs.Bytes.{pasted}
 use Rattle.rules.specs.Record.{pixelsBytes}
 use Rattle.rules.proofs.PastingLaws.{pasted-none}
 use Rattle.resume.proofs.Parts.{put-next}

@@ -4,7 +4,7 @@ use Prim.Native.Nat.{ℕ, _≤_, _-_, _+_, _*_}
 use mathlib.Core.Path.{_≡_, refl, sym, _∙_, ap}
 use native.Mathlib.Omega.{arith}
 use lib.ListN.{length}
-use Rattle.rules.specs.Reading.{pasted, repeated}
+use Rattle.rules.specs.Bytes.{pasted, repeated}
 use Rattle.pixel.specs.Packed.{unpacked}
 use Rattle.walk.specs.Asked.{threeBytes}
 use Rattle.rules.proofs.PastingLaws.{pasted-none}
