@@ -24,17 +24,13 @@ use Rattle.header.proofs.Laws.{header-accepted, sides-fit}
 use Rattle.rules.specs.Chunk.{Chunk}
 use Rattle.rules.specs.Reading.{Answer, refused, Reading, Move, silent, after, readOn, startPlace, remaining, readingInto, afterWanted, afterHeader, wholeReading}
 use Rattle.rules.specs.Decode.{decoder, decoding}
-use Rattle.rules.specs.Step.{State, Typed, alphaPasses, wantedPasses, wellFormed, Started, started, notStarted, startWanted, startHeader, starting}
+use Rattle.rules.specs.Step.{State, startState, Typed, alphaPasses, wantedPasses, wellFormed, Started, started, notStarted, startWanted, startHeader, starting}
 use Rattle.rules.proofs.ChunkLaws.{Sound}
 use Rattle.rules.proofs.PlaceLaws.{Shaped, shaped-start, shaped-next, pixel-reached, stays-inside}
 use Rattle.rules.proofs.ReadingLaws.{after-after, remaining-unfolds}
 use Rattle.rules.proofs.RecordLaws.{formed, forms, wanted-few, refused-is-no-start}
 use Rattle.demands.specs.TakeOver.{bytesBefore}
 use Rattle.rules.proofs.StepLaws.{nextState, bytesBy, moveFrom, needed, well-next}
-
--- the state at the start of a picture
-abbrev pub startState : Header → ℕ → State
-startState header wanted = record { header = header; wanted = wanted; place = startPlace }
 
 -- what a start that is accepted has read
 record Opening (m : List ℕ) (w : ℕ) (s : State) : Type 0 where

@@ -16,7 +16,7 @@ use Rattle.rules.specs.Chunk.{chunkFrom, chunkAt, colourOf, timesOf, sizeOf}
 use Rattle.rules.specs.Bytes.{sameBytes, repeated}
 use Rattle.rules.specs.Reading.{done, marker, closing, startPlace, pixelsBrought, pixelAfter, placeAfter, bytesOf, moveBy, move, reading, readingInto, afterWanted, afterHeader, wholeReading}
 use Rattle.rules.specs.Decode.{decoderStores, decoderKeeps, decoderReadsRgba}
-use Rattle.rules.specs.Step.{State, wellFormed, startWanted, startHeader, starting, stepBy, step, Ran, ended, running, outputOf}
+use Rattle.rules.specs.Step.{State, startState, wellFormed, startWanted, startHeader, starting, stepBy, step, Ran, ended, running, outputOf}
 use Rattle.demands.specs.TakeOver.{Life, begun, stepped, taken-up, stepsLeft, EndsAsUncut}
 use Rattle.demands.specs.Flushing.{Torn, Stored}
 use Rattle.demands.specs.Flushing as store
@@ -44,7 +44,7 @@ found = 0 ∷ 0 ∷ 0 ∷ 255 ∷ 9 ∷ 9 ∷ 9 ∷ 9 ∷ 9 ∷ []
 
 -- the states: at the start, after the run, and after the INDEX
 abbrev atStart : State
-atStart = record { header = header; wanted = 4; place = startPlace }
+atStart = startState header 4
 
 abbrev afterRun : State
 afterRun =

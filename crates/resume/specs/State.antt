@@ -5,8 +5,7 @@ use Prim.Native.Nat.{ℕ}
 use lib.ListN.{length}
 use Rattle.header.specs.declared.Header.{Header}
 use Rattle.header.specs.Header.{defaultHeader}
-use Rattle.rules.specs.Reading.{startPlace}
-use Rattle.rules.specs.Step.{State, Started, started, notStarted}
+use Rattle.rules.specs.Step.{State, startState, Started, started, notStarted}
 use Rattle.rules.specs.Record.{Recorded, recorded, notRecorded, recording, recordedOver}
 use Rattle.resume.specs.declared.Decoder.{Decoder}
 use Rattle.resume.specs.declared.Started as code
@@ -24,13 +23,9 @@ stateOf d =
       place = record { at = d .at; pixel = d .pixel; current = d .current; slots = d .slots };
     }
 
--- a state at the start place
-abbrev pub freshState : Header → ℕ → State
-freshState header wanted = record { header = header; wanted = wanted; place = startPlace }
-
 -- a state to start from
 abbrev pub idleState : State
-idleState = freshState defaultHeader 3
+idleState = startState defaultHeader 3
 
 -- a start's answer: accepted, or the refusal
 abbrev pub startAnswer : Started → StartAnswer

@@ -1,7 +1,7 @@
 // A fresh state, and the answers of a start.
 ghost use mathlib.Core.Path.{_≡_};
-ghost use Rattle.rules.specs.Step.{startWanted, notStarted};
-ghost use Rattle.resume.specs.State.{stateOf, Answers, freshState};
+ghost use Rattle.rules.specs.Step.{startState, startWanted, notStarted};
+ghost use Rattle.resume.specs.State.{stateOf, Answers};
 use crate::Decoder;
 use crate::StartAnswer;
 use crate::Started;
@@ -13,7 +13,7 @@ use pixel::types::ChannelsRead;
 
 // The state before the first chunk.
 pub fn fresh(header: Header, wanted: u64) -> Decoder
-    ensures { λ r. ⌜ stateOf r ≡ freshState header wanted ⌝ }
+    ensures { λ r. ⌜ stateOf r ≡ startState header wanted ⌝ }
 {
     let current = Pixel::start();
     let clear = Pixel::clear();

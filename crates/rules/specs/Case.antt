@@ -20,7 +20,7 @@ use Rattle.rules.specs.Trace.{Visit, visitsOn, chunkDue, visits, headerT
 use Rattle.rules.specs.Document.{documentReading, namesFilled, filledAfter, filledIn, indexesFilled}
 use Rattle.pixel.specs.Bytes.{pixelFrom, pixelsFrom}
 use Rattle.rules.specs.Encode.{EncodeAnswer, encoded, notEncoded, Encoding, fitsDiff, fitsLuma, diffChunk, lumaChunk, colourChunk, startPen, runEnded, slotHolds, differingChunk, pixelChunks, penAfter, chunksFrom, chunkBytes, chunksBytes, chunksOf, streamOf, encodingInto, afterSpace, afterCount, afterDimensions, encoding}
-use Rattle.rules.specs.Step.{State, wellFormed, Started, started, notStarted, startWanted, startHeader, starting, Step, stepBy, step, steppedOver, Ran, going, ended, running}
+use Rattle.rules.specs.Step.{State, wellFormed, startState, Started, started, notStarted, startWanted, startHeader, starting, Step, stepBy, step, steppedOver, Ran, going, ended, running}
 use Rattle.rules.specs.Record.{pixelsBytes, recordBytes, recording, recordedOver, afterNumber, readEnd, readSlots, readPositions, readWanted, readRecord}
 use Rattle.rules.specs.Strict.{StrictAnswer, strictClosed, strictClosing, strictCounted, strictBy, strictMove, strictFrom, strictHeader, strict, runsFitIn, runsFit, chunkCount}
 use Rattle.rules.specs.Figures.{headerFigures, answerFigures, encodeFigures, strictFigures, numberFigures, startFigures, recordFigures, stepFigures}
@@ -139,9 +139,9 @@ stateAt width height channels wanted at pixel alpha =
     }
 
 -- the state at the start of a picture
-abbrev pub startState : ℕ → ℕ → Channels → ℕ → State
-startState width height channels wanted =
-    record { header = headerWith width height channels; wanted = wanted; place = startPlace }
+abbrev pub stateFrom : ℕ → ℕ → Channels → ℕ → State
+stateFrom width height channels wanted =
+    startState (headerWith width height channels) wanted
 
 -- the state that some steps lead to
 stateOf : Ran → State
@@ -151,7 +151,7 @@ stateOf (ended verdict s out) = s
 -- the state after n steps from a picture's start
 pub stateAfter : ℕ → ℕ → ℕ → Channels → ℕ → List ℕ → State
 stateAfter steps width height channels wanted chunks =
-    let s = startState width height channels wanted in
+    let s = stateFrom width height channels wanted in
     stateOf (running (message width height channels chunks) steps s (held (width * height * wanted)))
 
 -- what a worker leaves that ends
@@ -253,7 +253,7 @@ holds (traces m fit count positions) =
     && (eqb (chunkCount m) count && sameBytes (map (λ (v : Visit). v .place .at) (trace m)) positions)
 holds (fills m each) = sameTest (indexesFilled m) each
 holds (starts m wanted figures) =
-    startIs figures (take 14 m ++ drop 14 (recordBytes (startState 1 1 Rgb wanted))) (starting m wanted)
+    startIs figures (take 14 m ++ drop 14 (recordBytes (stateFrom 1 1 Rgb wanted))) (starting m wanted)
 holds (stepsOn s m room figures out) =
     sameBytes (stepFigures (step s m room)) figures && sameBytes (outputAfter s (held room) (step s m room)) out
 holds (counts n bytes) =

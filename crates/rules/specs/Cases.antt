@@ -8,7 +8,7 @@ use Rattle.pixel.specs.declared.types.Channels.the-variants.{Rgb, Rgba}
 use Rattle.rules.specs.Bytes.{repeated}
 use Rattle.rules.specs.Reading.{marker}
 use Rattle.rules.specs.Record.{recordBytes}
-use Rattle.rules.specs.Case.{Case, streams, encodesInto, decodesInto, documentsInto, opens, checks, traces, fills, starts, stepsOn, counts, countsBack, records, readsBack, takesUp, differ, accepted, refusal, onward, held, rgb, rgba, headed, message, encodes, decodes, documents, reads, leaves, stateAt, startState, stateAfter, holds, allHold}
+use Rattle.rules.specs.Case.{Case, streams, encodesInto, decodesInto, documentsInto, opens, checks, traces, fills, starts, stepsOn, counts, countsBack, records, readsBack, takesUp, differ, accepted, refusal, onward, held, rgb, rgba, headed, message, encodes, decodes, documents, reads, leaves, stateAt, stateFrom, stateAfter, holds, allHold}
 
 -- black pixels of three channels
 abbrev black : ℕ → List ℕ
@@ -45,7 +45,7 @@ wrongMagic channels colorspace = replicate 12 0 ++ (channels ∷ colorspace ∷ 
 
 -- the record at the start of a 1x1 RGB message, wanted 3
 abbrev startRecord : List ℕ
-startRecord = recordBytes (startState 1 1 Rgb 3)
+startRecord = recordBytes (stateFrom 1 1 Rgb 3)
 
 -- the slots that hold A in slot 33 and B in slot 53: 33, 19 and 10 empty ones stand before, between and after
 abbrev slotsOfAB : List ℕ
@@ -487,23 +487,23 @@ recordRows =
     -- cut short is 1
     ∷ countsBack (0x82 ∷ []) (refusal 1 [])
     -- the shortest record, 277 bytes; bytes after it stay
-    ∷ records (startState 1 1 Rgb 3) 279 (accepted (277 ∷ []))
+    ∷ records (stateFrom 1 1 Rgb 3) 279 (accepted (277 ∷ []))
     (fourteen 1 1 3 0 ++ (3 ∷ 14 ∷ 0 ∷ (rgba 0 0 0 255 ++ (replicate 256 0 ++ held 2))))
     -- A B A A B after two steps: byte position 22, pixel position 2, current pixel B, both in their slots
     ∷ records (stateAfter 2 5 1 Rgb 3 chunksABAAB) 277 (accepted (277 ∷ []))
     (fourteen 5 1 3 0 ++ (3 ∷ 22 ∷ 2 ∷ (rgba 0 0 0 255 ++ slotsOfAB)))
     -- writing: 9, before 7
-    ∷ records (startState 1 1 Rgb 5) 276 (refusal 9 []) (held 276)
+    ∷ records (stateFrom 1 1 Rgb 5) 276 (refusal 9 []) (held 276)
     -- 9 where there is room, too: nothing is written
-    ∷ records (startState 1 1 Rgb 5) 277 (refusal 9 []) (held 277)
+    ∷ records (stateFrom 1 1 Rgb 5) 277 (refusal 9 []) (held 277)
     -- then 7: required is its length
-    ∷ records (startState 1 1 Rgb 3) 276 (refusal 7 (276 ∷ 277 ∷ [])) (held 276)
+    ∷ records (stateFrom 1 1 Rgb 3) 276 (refusal 7 (276 ∷ 277 ∷ [])) (held 276)
     -- reading back gives the same state
     ∷ readsBack startRecord (accepted (14 ∷ 0 ∷ 3 ∷ []))
     -- also in the middle of A B A A B
     ∷ readsBack (recordBytes (stateAfter 2 5 1 Rgb 3 chunksABAAB)) (accepted (22 ∷ 2 ∷ 3 ∷ []))
     -- also with wanted 4
-    ∷ readsBack (recordBytes (startState 1 1 Rgb 4)) (accepted (14 ∷ 0 ∷ 4 ∷ []))
+    ∷ readsBack (recordBytes (stateFrom 1 1 Rgb 4)) (accepted (14 ∷ 0 ∷ 4 ∷ []))
     -- reading goes left to right: a header cut short is 1
     ∷ readsBack (take 13 startRecord) (refusal 1 [])
     -- header as above

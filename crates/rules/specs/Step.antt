@@ -64,11 +64,15 @@ pub data Started : Type 0 where
   started : State → Started
   notStarted : Error → Started
 
--- 2 for wanted other than 3 or 4; else the start place
+-- the state before the first chunk
+abbrev pub startState : Header → ℕ → State
+startState header wanted = record { header = header; wanted = wanted; place = startPlace }
+
+-- 2 for wanted other than 3 or 4; else the start's state
 unfoldable pub startWanted : Header → ChannelsRead → Started
 startWanted header (channels-read.Refused e) = notStarted e
 startWanted header (channels-read.Ok channels) =
-    started (record { header = header; wanted = channelsNumber channels; place = startPlace })
+    started (startState header (channelsNumber channels))
 
 -- the header's refusals come first
 unfoldable pub startHeader : ℕ → HeaderRead → Started
