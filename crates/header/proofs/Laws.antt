@@ -1,7 +1,7 @@
 -- The laws of the header: its bytes read back, how many they are, what an accepted header is like, and that it is
 -- written back. Assumes nothing.
 use mathlib.Core.Path.{_≡_, refl, sym, _∙_, ap, ap₂, subst}
-use mathlib.Core.Bool.{Bool, true, false, cond, _&&_}
+use mathlib.Core.Bool.{Bool, true, false, cond, not, _&&_}
 use mathlib.Core.List.{List, [], _∷_, _++_}
 use Prim.Native.Nat.{ℕ, zero, suc, _+_, _*_, _/_, _%_, _^_, _≤_, _<_}
 use native.Mathlib.Nat.{zero-mul, mul-zero, mul-comm, le-mul-of-pos-right, le-of-lt, lt-of-le-of-lt, mul-le-mul-left, mul-lt-mul-of-pos-right, mod-eq-of-lt, div-div-eq-div-mul}
@@ -10,7 +10,7 @@ use native.Mathlib.Omega.{arith}
 use lib.Dec.{T, ltb, leb, eqb, leb→le, eqb→eq, lit<}
 use lib.ListN.{length, getD, take, drop}
 use lib.Seq.{drop-cons}
-use borrow.Author.Tests.{le-ltb, ltb-false, eqb-true}
+use borrow.Author.Tests.{le-ltb, ltb-false, eqb-true, not-false}
 use Rattle.pixel.specs.Bytes.{AllBytes}
 use Rattle.pixel.specs.Types.{channelsNumber, colorSpaceNumber, channelsFrom, colorSpaceFrom}
 use Rattle.pixel.specs.Colour.{red, green, blue, alpha}
@@ -215,3 +215,14 @@ module _ (bytes : List ℕ) (are : AllBytes bytes) where
       (ap₂ _++_ (number-written-back (h .height) 8 (ok .height-is) (omega arith))
       (ap₂ (λ c s. c ∷ s ∷ []) (ok .channels-is) (ok .space-is))))
       ∙ taken bytes 0 14 (ok .whole)
+
+-- what a test that was passed says
+pub fitted :
+    (h : Header) {passed : Bool} → passed ≡ dimensionsFit (h .width) (h .height) → not passed ≡ false → dimensionsFit (h .width) (h .height) ≡ true
+fitted h {passed} is left = sym is ∙ not-false passed left
+
+-- a header that passed has few pixels
+pub fitted-small :
+    (h : Header) {passed : Bool} {n : ℕ}
+    → passed ≡ dimensionsFit (h .width) (h .height) → not passed ≡ false → n ≡ pixelCount h → n ≤ 400000000
+fitted-small h is left count = rw count (pixels-small h (subst T (sym (fitted h is left)) tt))

@@ -3,7 +3,7 @@ ghost use mathlib.Core.Path.{_≡_};
 ghost use Prim.Native.Nat.{_+_, _*_, _≤_};
 ghost use lib.ListN.{length};
 ghost use Rattle.pixel.specs.Types.{channelsNumber};
-ghost use Rattle.header.specs.Header.{headerBytes, headerOf, headerFrom, defaultHeader, withChannels, withColorSpace, pixelCount, pixelBytes, encodedRoom, saturated, bigEndian, numberAt, afterChannels, afterColorSpace};
+ghost use Rattle.header.specs.Header.{headerBytes, headerOf, headerFrom, dimensionsFit, defaultHeader, withChannels, withColorSpace, pixelCount, pixelBytes, encodedRoom, saturated, bigEndian, numberAt, afterChannels, afterColorSpace};
 use pixel::consts::QOI_HEADER_SIZE;
 use pixel::consts::QOI_MAGIC;
 use pixel::consts::QOI_PADDING_SIZE;
@@ -51,19 +51,27 @@ impl Header {
     ) -> HeaderRead
         ensures { λ r. ⌜ r ≡ headerFrom width height channels colorspace ⌝ }
     {
-        let pixels = product(width, height);
-        if pixels < 1 {
-            return HeaderRead::Refused(Error::InvalidImageDimensions { width, height });
-        }
-        if QOI_PIXELS_MAX < pixels {
-            return HeaderRead::Refused(Error::InvalidImageDimensions { width, height });
-        }
-        HeaderRead::Ok(Header {
+        let header = Header {
             width,
             height,
             channels,
             colorspace,
-        })
+        };
+        if !header.dimensions_fit() {
+            return HeaderRead::Refused(Error::InvalidImageDimensions { width, height });
+        }
+        HeaderRead::Ok(header)
+    }
+
+    // Whether there are 1 to 400,000,000 pixels.
+    pub fn dimensions_fit(self) -> bool
+        ensures { λ r. ⌜ r ≡ dimensionsFit (self .width) (self .height) ⌝ }
+    {
+        let pixels = self.n_pixels();
+        if pixels < 1 {
+            return false;
+        }
+        pixels <= QOI_PIXELS_MAX
     }
 
     pub fn with_channels(self, channels: Channels) -> Self

@@ -153,6 +153,9 @@ header·Header·encode κs a z z′ e e′ ok ok′ p q = (p ∙ sym q, refl)
 pub header·Header·decode : Determined Header.decode.Kinds.ps Header.decode.Kinds.r Header.decode.Reads.Post
 header·Header·decode κs a z z′ e e′ ok ok′ p q = (p ∙ sym q, refl)
 
+pub header·Header·dimensions-fit : Determined Header.dimensions_fit.Kinds.ps Header.dimensions_fit.Kinds.r Header.dimensions_fit.Reads.Post
+header·Header·dimensions-fit κs a z z′ e e′ ok ok′ p q = (p ∙ sym q, refl)
+
 pub header·Header·n-pixels : Determined Header.n_pixels.Kinds.ps Header.n_pixels.Kinds.r Header.n_pixels.Reads.Post
 header·Header·n-pixels κs a z z′ e e′ ok ok′ p q = (p ∙ sym q, refl)
 
@@ -192,6 +195,9 @@ pub walk·walk : Determined walk.walk.Kinds.ps walk.walk.Kinds.r walk.walk.Reads
 walk·walk κs a z z′ e e′ ok ok′ p q =
     let same = walk-determined z z′ (e .1 .1 .1 .1 .0) (e′ .1 .1 .1 .1 .0) (p ∙ sym q) in
     (same .0, λ i. (tt, (tt, (tt, (tt, (same .1 i, (tt, tt)))))))
+
+pub walk·least : Determined walk.least.Kinds.ps walk.least.Kinds.r walk.least.Reads.Post
+walk·least κs a z z′ e e′ ok ok′ p q = (p ∙ sym q, refl)
 
 -- ---- crate `resume`
 pub resume·Decoder·idle : Determined Decoder.idle.Kinds.ps Decoder.idle.Kinds.r Decoder.idle.Reads.Post

@@ -1,6 +1,6 @@
 // A run of steps: the tests of state, output and message, the walk over the chunks, and the marker.
 ghost use mathlib.Core.Path.{_≡_};
-ghost use Prim.Native.Nat.{_≤_, min};
+ghost use Prim.Native.Nat.{_≤_};
 ghost use lib.ListN.{length};
 ghost use Rattle.pixel.specs.Types.{channelsNumber};
 ghost use Rattle.rules.specs.Reading.{closing};
@@ -79,7 +79,7 @@ fn go_on(decoder: Decoder, message: &[u8], out: &mut [u8], steps: usize, require
         channels,
         place,
         &mut out[from..],
-        least(steps, most),
+        walk::least(steps, most),
     );
     let end = walked.place;
     let last = end.current;
@@ -132,11 +132,4 @@ fn channels_of(wanted: u64) -> Channels
     } else {
         Channels::Rgba
     }
-}
-
-// The lesser of two numbers.
-fn least(a: usize, b: usize) -> usize
-    ensures { λ r. ⌜ r ≡ min a b ⌝ }
-{
-    if a < b { a } else { b }
 }

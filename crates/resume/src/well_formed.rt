@@ -4,24 +4,19 @@ ghost use Rattle.rules.specs.Step.{wellFormed};
 ghost use Rattle.resume.specs.State.{stateOf};
 use crate::Decoder;
 use pixel::consts::QOI_HEADER_SIZE;
-use pixel::consts::QOI_PIXELS_MAX;
 
 // Whether a state is well formed.
 pub fn well_formed(decoder: Decoder) -> bool
     ensures { λ r. ⌜ r ≡ wellFormed (stateOf decoder) ⌝ }
 {
     let header = decoder.header;
-    let pixels = header.n_pixels();
-    if pixels < 1 {
-        return false;
-    }
-    if QOI_PIXELS_MAX < pixels {
+    if !header.dimensions_fit() {
         return false;
     }
     if decoder.at < QOI_HEADER_SIZE {
         return false;
     }
-    if pixels < decoder.pixel {
+    if header.n_pixels() < decoder.pixel {
         return false;
     }
     if decoder.wanted == 3 {

@@ -8,7 +8,6 @@ ghost use Rattle.walk.specs.Walking.{placeOf, walkOf, walking};
 ghost use Rattle.walk.specs.Asked.{Fits, fourBytes};
 use crate::Place;
 use crate::Walked;
-use crate::shared;
 use chunk::Found;
 use header::Header;
 use pixel::packed;
@@ -35,7 +34,7 @@ pub fn walk_four(
     let mut at = place.at;
     let mut done: usize = 0;
     let mut limit = steps;
-    let mut bound = shared::least(limit, missing);
+    let mut bound = crate::least(limit, missing);
     while done < bound {
         match chunk::read(source, &message[at..]) {
             Found::Cut => {
@@ -60,12 +59,12 @@ pub fn walk_four(
                 done += 1;
             }
             Found::Run(times) => {
-                let n = shared::least(times as usize, missing - done);
+                let n = crate::least(times as usize, missing - done);
                 fill_four(out, done * 4, n, current);
                 at += 1;
                 done += n;
                 limit += n - 1;
-                bound = shared::least(limit, missing);
+                bound = crate::least(limit, missing);
             }
             Found::Colour(colour) => {
                 at += chunk::size(colour);

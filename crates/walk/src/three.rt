@@ -8,7 +8,6 @@ ghost use Rattle.walk.specs.Walking.{placeOf, walkOf, walking};
 ghost use Rattle.walk.specs.Asked.{Fits, threeBytes};
 use crate::Place;
 use crate::Walked;
-use crate::shared;
 use chunk::Found;
 use header::Header;
 use pixel::packed;
@@ -34,7 +33,7 @@ pub fn walk_three(
     let mut at = place.at;
     let mut done: usize = 0;
     let mut limit = steps;
-    let mut bound = shared::least(limit, missing);
+    let mut bound = crate::least(limit, missing);
     while done < bound {
         match chunk::read(source, &message[at..]) {
             Found::Cut => {
@@ -58,13 +57,13 @@ pub fn walk_three(
                 done += 1;
             }
             Found::Run(times) => {
-                let n = shared::least(times as usize, missing - done);
+                let n = crate::least(times as usize, missing - done);
                 current = packed::opaque(current);
                 fill_three(out, done * 3, n, current);
                 at += 1;
                 done += n;
                 limit += n - 1;
-                bound = shared::least(limit, missing);
+                bound = crate::least(limit, missing);
             }
             Found::Colour(colour) => {
                 at += chunk::size(colour);
