@@ -4,7 +4,7 @@
 use mathlib.Core.Path.{_≡_, refl, sym, _∙_, ap}
 use mathlib.Core.List.{List, _++_}
 use Prim.Native.Nat.{ℕ, _+_, _-_, _≤_, _<_}
-use native.Mathlib.Nat.{lt-of-not-le, mul-le-mul-right}
+use native.Mathlib.Nat.{lt-of-not-le, zero-add, mul-le-mul-right}
 use native.Mathlib.Decide.{decLe}
 use native.Mathlib.Omega.{arith}
 use lib.ListN.{length, take, drop, take-append-drop}
@@ -79,7 +79,7 @@ module _ (m : List ℕ) (w : ℕ) where
           e .0,
           sym (take-append-drop (bytesBefore s) o)
               ∙ ap (λ (l : List ℕ). l ++ drop (bytesBefore s) o) (held .before ∙ sym (e .1))
-              ∙ ap (λ (l : List ℕ). whole m w .bytes ++ l) (rw (← n) (held .beyond)),
+              ∙ ap (λ (l : List ℕ). whole m w .bytes ++ l) (rw (zero-add (length (whole m w .bytes)), ← n) (held .beyond)),
         )
 
     -- a step that ends is the uncut decode's end, with its output

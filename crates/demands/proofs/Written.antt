@@ -4,6 +4,7 @@ use mathlib.Core.Path.{_≡_}
 use mathlib.Core.Bool.{Bool, true, false, cond}
 use mathlib.Core.List.{List}
 use Prim.Native.Nat.{ℕ}
+use native.Mathlib.Nat.{zero-add}
 use native.Mathlib.Omega.{arith}
 use lib.Dec.{ltb}
 use lib.ListN.{length, take, drop}
@@ -28,6 +29,7 @@ written-record s out n e = go (wellFormed s) (ltb (length out) (length (recordBy
         (well short : Bool)
         → cond well (cond short (notRecorded (OutputBufferTooSmall (length out) (length (recordBytes s)))) (recorded (length (recordBytes s)))) (notRecorded BadState) ≡ recorded n
         → take n (cond well (cond short out (writtenOver (recordBytes s) out)) out) ≡ recordBytes s
-    go true false e = take-at (recordBytes s) (drop (length (recordBytes s)) out) n (same-length e)
+    go true false e =
+        rw (zero-add (length (recordBytes s))) (take-at (recordBytes s) (drop (length (recordBytes s)) out) n (same-length e))
     go true true e = absurd (refused-is-no-record e)
     go false short e = absurd (refused-is-no-record e)

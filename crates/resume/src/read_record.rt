@@ -4,7 +4,7 @@ ghost use Prim.Native.Nat.{_+_, _≤_};
 ghost use lib.ListN.{length, drop};
 ghost use Rattle.header.specs.declared.HeaderRead.the-variants as headerRead;
 ghost use Rattle.pixel.specs.Bytes.{pixelFrom, pixelsFrom};
-ghost use Rattle.rules.specs.Record.{readWanted, readPositions, readSlots, readEnd};
+ghost use Rattle.rules.specs.Record.{readWanted, readPositions, readSlots, acceptState};
 ghost use Rattle.resume.specs.Asked.{fromAt, fromPixel};
 ghost use Rattle.resume.specs.State.{stateOf, Answers};
 use crate::Decoder;
@@ -109,7 +109,7 @@ fn read_slots(
 
 // The faults of state, then bytes after the last slot.
 fn accept(old: Decoder, decoder: Decoder, left: usize) -> Started
-    ensures { λ r. ⌜ Answers (readEnd (stateOf decoder) left) old r ⌝ }
+    ensures { λ r. ⌜ Answers (acceptState (stateOf decoder) left) old r ⌝ }
 {
     if !well_formed::well_formed(decoder) {
         return start::refused(old, Error::BadState);

@@ -26,7 +26,7 @@ use Rattle.header.specs.Header.{headerBytes, headerOf}
 use Rattle.number.proofs.Laws.{read-written-back}
 use Rattle.header.proofs.Laws.{channels-number, header-written-back}
 use Rattle.rules.specs.Step.{State, wellFormed, Started, started, notStarted}
-use Rattle.rules.specs.Record.{pixelsBytes, recordBytes, afterNumber, readEnd, readSlots, readPositions, readWanted, readRecord}
+use Rattle.rules.specs.Record.{pixelsBytes, recordBytes, afterNumber, acceptState, readSlots, readPositions, readWanted, readRecord}
 use Rattle.rules.proofs.RecordLaws.{refused-is-no-start, sized}
 use Rattle.rules.proofs.PictureLaws.{written, every-byte, pixels-written}
 
@@ -59,8 +59,8 @@ module _ (s : State) where
   failed false r e p = (refl, p)
 
   -- an accepted record ends with its last slot, and its state, which is well formed, is the one that was read
-  end-accepted : (made : State) (left : ℕ) → readEnd made left ≡ started s → (left ≡ 0) × (made ≡ s) × T (wellFormed made)
-  unfolding readEnd
+  end-accepted : (made : State) (left : ℕ) → acceptState made left ≡ started s → (left ≡ 0) × (made ≡ s) × T (wellFormed made)
+  unfolding acceptState
   end-accepted made left p =
       let well = passed (wellFormed made) _ _ p in
       let q = passed (eqb left 0) _ _ (well .1) in

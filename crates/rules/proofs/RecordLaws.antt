@@ -22,7 +22,7 @@ use Rattle.number.proofs.Laws.{read-written, rest-after-written, length-at-leas
 use Rattle.header.proofs.Laws.{is-true, both, pixels-small, header-read-back, header-length}
 use Rattle.pixel.specs.Bytes.{pixelFrom, pixelsFrom}
 use Rattle.rules.specs.Step.{State, Typed, headerPasses, wantedPasses, atPasses, pixelPasses, alphaPasses, wellFormed, started, notStarted}
-use Rattle.rules.specs.Record.{pixelsBytes, recordBytes, afterNumber, readEnd, readSlots, readPositions, readWanted, readRecord}
+use Rattle.rules.specs.Record.{pixelsBytes, recordBytes, afterNumber, acceptState, readSlots, readPositions, readWanted, readRecord}
 
 -- a list of four is read back as a pixel, whatever follows
 four-read : (bytes rest : List ℕ) → length bytes ≡ 4 → pixelFrom 4 (bytes ++ rest) ≡ record { rgba = bytes }
@@ -157,7 +157,7 @@ module _ (s : State) (typed : Typed s) (well : T (wellFormed s)) where
   slots-read :
       readSlots (s .header) (s .wanted) (s .place .at) (s .place .pixel)
       (s .place .current .rgba ++ pixelsBytes (s .place .slots)) ≡ started s
-  unfolding readSlots readEnd
+  unfolding readSlots acceptState
   slots-read =
       rw (le-ltb (length (s .place .current .rgba ++ pixelsBytes (s .place .slots))) 260 (omega (arith, slots-length)), four-read (s .place .current .rgba) (pixelsBytes (s .place .slots)) (typed .current-is), slots-back, none-left, is-true (wellFormed s) well)
 

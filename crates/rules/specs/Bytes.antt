@@ -23,4 +23,4 @@ pasted at bytes out = take at out ++ (bytes ++ drop (at + length bytes) out)
 
 -- a lent output at exit: the bytes that were written, then what it held after them
 abbrev pub writtenOver : List ℕ → List ℕ → List ℕ
-writtenOver bytes out = bytes ++ drop (length bytes) out
+writtenOver bytes out = pasted 0 bytes out

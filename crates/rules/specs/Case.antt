@@ -9,6 +9,8 @@ use Rattle.pixel.specs.declared.types.Channels.the-variants.{Rgb}
 use Rattle.pixel.specs.declared.types.ColorSpace.the-variants.{Srgb}
 use Rattle.pixel.specs.Colour.{slotOf, pixelOf, clearPixel}
 use Rattle.pixel.specs.Types.{channelsNumber, colorSpaceNumber}
+use Rattle.number.specs.declared.NumberRead.{NumberRead}
+use Rattle.number.specs.declared.NumberRead.the-variants as number-read
 use Rattle.number.specs.Seven.{sevenBitsOf, sevenBits, groupBelow, readMore, readNumber}
 use Rattle.header.specs.declared.Header.{Header}
 use Rattle.header.specs.Header.{headerBytes, headerFrom, afterColorSpace, afterChannels, headerOf}
@@ -21,9 +23,9 @@ use Rattle.rules.specs.Document.{documentReading, namesFilled, filledAft
 use Rattle.pixel.specs.Bytes.{pixelFrom, pixelsFrom}
 use Rattle.rules.specs.Encode.{EncodeAnswer, encoded, notEncoded, Encoding, fitsDiff, fitsLuma, diffChunk, lumaChunk, colourChunk, startPen, runEnded, slotHolds, differingChunk, pixelChunks, penAfter, chunksFrom, chunkBytes, chunksBytes, chunksOf, streamOf, encodingInto, afterSpace, afterCount, afterDimensions, encoding}
 use Rattle.rules.specs.Step.{State, wellFormed, startState, Started, started, notStarted, startWanted, startHeader, starting, Step, stepBy, step, steppedOver, Ran, going, ended, running}
-use Rattle.rules.specs.Record.{pixelsBytes, recordBytes, recording, recordedOver, afterNumber, readEnd, readSlots, readPositions, readWanted, readRecord}
+use Rattle.rules.specs.Record.{Recorded, recorded, notRecorded, pixelsBytes, recordBytes, recording, recordedOver, afterNumber, acceptState, readSlots, readPositions, readWanted, readRecord}
 use Rattle.rules.specs.Strict.{StrictAnswer, strictClosed, strictClosing, strictCounted, strictBy, strictMove, strictFrom, strictHeader, strict, runsFitIn, runsFit, chunkCount}
-use Rattle.rules.specs.Figures.{headerFigures, answerFigures, encodeFigures, strictFigures, numberFigures, startFigures, recordFigures, stepFigures}
+use Rattle.rules.specs.Figures.{refusalFigures, headerFigures, answerFigures, encodeFigures, strictFigures}
 
 -- a row: what is given, and then what must come; an answer is its number and figures, and an output is lent full of ee
 pub data Case : Type 0 where
@@ -63,6 +65,26 @@ pub data Case : Type 0 where
   takesUp : List ℕ → ℕ → ℕ → ℕ → ℕ → List ℕ → Case
   -- two lists that the comparison of these tests must tell apart
   differ : List ℕ → List ℕ → Case
+
+-- a number read: its value, the bytes that it took
+abbrev numberFigures : NumberRead → List ℕ
+numberFigures (number-read.Number value used) = 0 ∷ value ∷ used ∷ 0 ∷ 0 ∷ []
+numberFigures (number-read.Refused e) = refusalFigures e
+
+-- a start or a take-up: byte position, pixel position, wanted channels
+abbrev startFigures : Started → List ℕ
+startFigures (started s) = 0 ∷ s .place .at ∷ s .place .pixel ∷ s .wanted ∷ 0 ∷ []
+startFigures (notStarted e) = refusalFigures e
+
+-- a record written: its length
+abbrev recordFigures : Recorded → List ℕ
+recordFigures (recorded size) = 0 ∷ size ∷ 0 ∷ 0 ∷ 0 ∷ []
+recordFigures (notRecorded e) = refusalFigures e
+
+-- a step: 256 with byte position, pixel position and wanted channels, or its end's answer
+abbrev stepFigures : Step → List ℕ
+stepFigures (Step.more s bytes) = 256 ∷ s .place .at ∷ s .place .pixel ∷ s .wanted ∷ 0 ∷ []
+stepFigures (Step.end answer) = answerFigures answer
 
 -- a number and its figures, zeros after them up to four
 abbrev answer : ℕ → List ℕ → List ℕ
@@ -230,7 +252,7 @@ unfolding sameTest stateOf stateAfter afterRun resumed checkpointed begun encode
     decoderReadsRgba fitsDiff fitsLuma diffChunk lumaChunk colourChunk startPen runEnded slotHolds differingChunk
     pixelChunks penAfter chunksFrom chunkBytes chunksBytes pixelFrom pixelsFrom chunksOf streamOf encodingInto
     afterSpace afterCount afterDimensions encoding wellFormed startWanted startHeader starting stepBy step running
-    pixelsBytes recordBytes recording recordedOver restOf afterNumber readEnd readSlots readPositions readWanted
+    pixelsBytes recordBytes recording recordedOver restOf afterNumber acceptState readSlots readPositions readWanted
     readRecord strictClosed strictClosing strictCounted strictBy strictMove strictFrom strictHeader strict runsFitIn
     namesFilled filledAfter chunkDue indexesFilled visitsOn visits headerTrace trace filledIn
 holds (streams width height channels colorspace picture stream) =

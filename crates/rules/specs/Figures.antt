@@ -1,17 +1,13 @@
--- Answers as numbers: 0 or the refusal's number (256: a step with more to do), then four figures.
+-- Answers as numbers: 0 or the refusal's number, then four figures.
 use mathlib.Core.List.{List, [], _∷_}
 use Prim.Native.Nat.{ℕ}
 use Rattle.pixel.specs.declared.error.Error.{Error}
 use Rattle.pixel.specs.Refusal.{numberOf, figuresOf}
 use Rattle.pixel.specs.Types.{channelsNumber, colorSpaceNumber}
-use Rattle.number.specs.declared.NumberRead.{NumberRead}
-use Rattle.number.specs.declared.NumberRead.the-variants as number-read
 use Rattle.header.specs.declared.HeaderRead.{HeaderRead}
 use Rattle.header.specs.declared.HeaderRead.the-variants as header-read
 use Rattle.rules.specs.Reading.{Answer, done, refused}
 use Rattle.rules.specs.Encode.{EncodeAnswer, encoded, notEncoded}
-use Rattle.rules.specs.Step.{Started, started, notStarted, Step}
-use Rattle.rules.specs.Record.{Recorded, recorded, notRecorded}
 use Rattle.rules.specs.Strict.{StrictAnswer, accepted, rejected}
 
 -- a refusal: its number and its figures
@@ -37,23 +33,3 @@ encodeFigures (notEncoded e) = refusalFigures e
 abbrev pub strictFigures : StrictAnswer → List ℕ
 strictFigures (accepted header chunks bytes) = 0 ∷ chunks ∷ bytes ∷ 0 ∷ 0 ∷ []
 strictFigures (rejected e) = refusalFigures e
-
--- a number read: its value, the bytes that it took
-abbrev pub numberFigures : NumberRead → List ℕ
-numberFigures (number-read.Number value used) = 0 ∷ value ∷ used ∷ 0 ∷ 0 ∷ []
-numberFigures (number-read.Refused e) = refusalFigures e
-
--- a start or a take-up: byte position, pixel position, wanted channels
-abbrev pub startFigures : Started → List ℕ
-startFigures (started s) = 0 ∷ s .place .at ∷ s .place .pixel ∷ s .wanted ∷ 0 ∷ []
-startFigures (notStarted e) = refusalFigures e
-
--- a record written: its length
-abbrev pub recordFigures : Recorded → List ℕ
-recordFigures (recorded size) = 0 ∷ size ∷ 0 ∷ 0 ∷ 0 ∷ []
-recordFigures (notRecorded e) = refusalFigures e
-
--- a step: 256 with byte position, pixel position and wanted channels, or its end's answer
-abbrev pub stepFigures : Step → List ℕ
-stepFigures (Step.more s bytes) = 256 ∷ s .place .at ∷ s .place .pixel ∷ s .wanted ∷ 0 ∷ []
-stepFigures (Step.end answer) = answerFigures answer

@@ -61,15 +61,15 @@ afterNumber bytes (number-read.Number value used) next = next value (drop used b
 afterNumber bytes (number-read.Refused e) next = notStarted e
 
 -- after the last slot: the other faults of state, 9; extra bytes last, 9
-unfoldable pub readEnd : State → ℕ → Started
-readEnd s left =
+unfoldable pub acceptState : State → ℕ → Started
+acceptState s left =
     cond (wellFormed s) (cond (eqb left 0) (started s) (notStarted BadState)) (notStarted BadState)
 
 -- the current pixel and the slots: 260 bytes, cut short is 1
 unfoldable pub readSlots : Header → ℕ → ℕ → ℕ → List ℕ → Started
 readSlots header wanted at pixel bytes =
     cond (ltb (length bytes) 260) (notStarted UnexpectedBufferEnd)
-    (readEnd
+    (acceptState
     (record {
       header = header;
       wanted = wanted;

@@ -3,22 +3,22 @@
 use mathlib.Core.Path.{refl}
 use borrow.Author.Needs.{needs}
 use borrow.Author.Tests.{eq-eqb, ne-eqb, not-true, not-false}
-use Rattle.rules.specs.Record.{readEnd}
+use Rattle.rules.specs.Record.{acceptState}
 use Rattle.resume.proofs.read_record.accept.Statement.{statement}
 use Rattle.resume.proofs.read_record.accept.Tie as tie
 
 returns : tie.Need-returns
-unfolding readEnd
+unfolding acceptState
 returns c =
     rw (← c .before .before .well-formed .ensures, not-true (c .before .before .well-formed .result) (c .before .if1 .taken)) (c .refused .ensures)
 
 returns-2 : tie.Need-returns-2
-unfolding readEnd
+unfolding acceptState
 returns-2 c =
     rw (← c .before .before .before .well-formed .ensures, not-false (c .before .before .before .well-formed .result) (c .before .before .if1 .left), ne-eqb _ _ (c .before .if2 .taken)) (c .refused2 .ensures)
 
 returns-3 : tie.Need-returns-3
-unfolding readEnd
+unfolding acceptState
 returns-3 c =
     rw (← c .before .before .well-formed .ensures, not-false (c .before .before .well-formed .result) (c .before .if1 .left), eq-eqb _ _ (c .if2 .left)) (refl, refl)
 
