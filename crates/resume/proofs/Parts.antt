@@ -1,10 +1,10 @@
 -- Parts of a record put one after another into an output.
 -- Assumes nothing.
-use Prim.Native.Nat.{ℕ, suc, _+_, _-_, _≤_}
+use Prim.Native.Nat.{ℕ, _+_, _-_, _≤_}
 use mathlib.Core.Path.{_≡_}
-use mathlib.Core.List.{List, [], _∷_, _++_, append-nil, append-assoc}
+use mathlib.Core.List.{List, _++_, append-nil, append-assoc}
 use native.Mathlib.Omega.{arith}
-use lib.ListN.{length, take, drop, set, length-append}
+use lib.ListN.{length, take, drop, length-append}
 use lib.Seq.{drop-drop, drop-length}
 use borrow.Author.Tests.{le-leb}
 use borrow.Rule.Slice.PartMut.{putMid, post-is}
@@ -14,14 +14,7 @@ use Rattle.header.proofs.Laws.{header-length}
 use Rattle.rules.specs.Bytes.{pasted}
 use Rattle.rules.specs.Step.{State}
 use Rattle.rules.specs.Record.{pixelsBytes, recordBytes}
-use Rattle.rules.proofs.PastingLaws.{whole-tail, stored, pasted-next}
-
--- a byte stored, and then those after it
-pub stored-next :
-    (out : List ℕ) (at byte : ℕ) (rest : List ℕ) → at + suc (length rest) ≤ length out
-    → pasted (at + 1) rest (set out at byte) ≡ pasted at (byte ∷ rest) out
-stored-next out at byte rest fits =
-    rw (stored (byte ∷ []) out at (omega arith)) (pasted-next out at (byte ∷ []) rest (omega arith))
+use Rattle.rules.proofs.PastingLaws.{whole-tail, pasted-next}
 
 -- a part put, and then the one after it
 pub put-next :

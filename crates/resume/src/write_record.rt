@@ -88,10 +88,5 @@ fn put(out: &mut [u8], at: usize, bytes: &[u8]) -> usize
     requires { ⌜ at + length (now bytes) ≤ length (now out) ⌝ }
     ensures { λ r. ⌜ Puts at (now (bytes .entry)) (now (out .entry)) r (now (out .exit)) ⌝ }
 {
-    let mut i: usize = 0;
-    while i < bytes.len() {
-        out[at + i] = bytes[i];
-        i += 1;
-    }
-    at + bytes.len()
+    at + bytes::copy(bytes, &mut out[at..])
 }

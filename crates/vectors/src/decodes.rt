@@ -2,7 +2,6 @@
 // output is short of the needed;
 // two, the message's length, big-endian; the message; and the output's bytes as the Rust left them, which were all
 // 0xa5 before.
-use crate::groups;
 use crate::groups::Answer;
 use decode::Decoded;
 use header::Header;
@@ -52,7 +51,7 @@ fn answered(message: &[u8], decoded: Decoded) -> Answer {
 // A decode into an output, if it leaves there what the Rust left.
 fn decoded(message: &[u8], wanted: u8, out: &mut [u8], left: &[u8]) -> Answer {
     let decoded = decode::decode(message, wanted as u64, out);
-    if groups::equal(out, left) {
+    if check::same(out, left) {
         answered(message, decoded)
     } else {
         Answer::none()

@@ -155,21 +155,6 @@ fn room(input: &[u8]) -> Answer {
     )
 }
 
-// Whether two slices have the same bytes.
-pub fn equal(a: &[u8], b: &[u8]) -> bool {
-    if a.len() != b.len() {
-        return false;
-    }
-    let mut i = 0;
-    while i < a.len() {
-        if a[i] != b[i] {
-            return false;
-        }
-        i += 1;
-    }
-    true
-}
-
 // The fourteen bytes of a header that ten name, with those that the Rust wrote after the ten.
 fn header_written(input: &[u8]) -> Answer {
     if input.len() < 10 {
@@ -180,7 +165,7 @@ fn header_written(input: &[u8]) -> Answer {
         HeaderRead::Refused(e) => Answer::refused(e),
         HeaderRead::Ok(h) => {
             let bytes = h.encode();
-            if equal(&bytes, &input[10..]) {
+            if check::same(&bytes, &input[10..]) {
                 Answer::accepted(0, 0, 0, 0)
             } else {
                 Answer::none()

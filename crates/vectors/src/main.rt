@@ -3,8 +3,6 @@
 //
 // The list comes on standard input. A line is a case, and an empty line is none: empty lines fill the pages of 65,536
 // bytes, so that no case lies in two.
-ghost use Prim.Native.Nat.{_≤_};
-ghost use lib.ListN.{length};
 use libc::STDIN_FILENO;
 use tally::Tally;
 
@@ -14,28 +12,12 @@ mod groups;
 mod hex;
 mod tally;
 
-// Where the line that stands at a place ends.
-fn line_end(page: &[u8], start: usize) -> usize
-    requires { ⌜ start ≤ length (now page) ⌝ }
-    ensures { λ r. ⌜ start ≤ r ⌝ }
-    ensures { λ r. ⌜ r ≤ length (now (page .entry)) ⌝ }
-{
-    let mut i = start;
-    while i < page.len() {
-        if page[i] == b'\n' {
-            return i;
-        }
-        i += 1;
-    }
-    i
-}
-
 // The tally with the cases of a page.
 fn with_page(page: &[u8], before: Tally) -> Tally {
     let mut tally = before;
     let mut start = 0;
     while start < page.len() {
-        let end = line_end(page, start);
+        let end = bytes::scan::find(page, start, page.len(), b'\n');
         if start < end {
             tally = tally.with(page[start], case::agrees(&page[start..end]));
         }

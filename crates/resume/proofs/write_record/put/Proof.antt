@@ -1,84 +1,46 @@
--- `resume::write_record::put` meets its contract: at each turn the bytes still to come, put here, make the whole
--- answer.
+-- `resume::write_record::put` meets its contract: the part from the place on starts with the bytes, and is back in its
+-- place.
 -- Assumes nothing.
-use Prim.Native.Nat.{suc, _<_, _≤_, _+_, _-_}
-use mathlib.Core.Path.{_≡_, refl, sym, _∙_}
-use mathlib.Core.List.{[]}
-use native.Mathlib.Nat.{add-zero}
-use native.Mathlib.Numerals.{add-one}
+use Prim.Native.Nat.{ℕ, _+_, _-_}
+use mathlib.Core.Path.{_∙_, ap}
+use mathlib.Core.List.{List, _++_}
 use native.Mathlib.Omega.{arith}
-use lib.ListN.{length, drop, length-set, length-drop, drop-of-length-le}
-use lib.Seq.{drop-cons}
-use Rattle.rules.specs.Bytes.{pasted}
-use Rattle.rules.proofs.PastingLaws.{pasted-none}
-use Rattle.resume.proofs.Parts.{stored-next}
+use lib.ListN.{length, take, drop, length-drop}
+use lib.Seq.{take-length}
+use borrow.Author.Needs.{needs}
+use borrow.Rule.Slice.PartMut.{putMid}
+use Rattle.rules.proofs.PastingLaws.{whole-tail}
+use Rattle.resume.proofs.Parts.{put-back}
 use Rattle.resume.proofs.write_record.put.Statement.{statement}
 use Rattle.resume.proofs.write_record.put.Tie as tie
 
-abbrev Inv-loop : tie.InvT-loop
-Inv-loop out₀ at bytes i₀ out i =
-    (i ≤ length bytes) × (length out ≡ length out₀) × (pasted (at + i) (drop i bytes) out ≡ pasted at bytes out₀)
+copy-requires : tie.Need-copy-requires
+copy-requires c κs =
+    let a = c .before .before .before .args in
+    rw (whole-tail (a .out .now) (a .at)) (simp length-drop (omega arith))
 
-abbrev μ-loop : tie.MeasureT-loop
-μ-loop out₀ at bytes i₀ out i = length bytes - i
+add-result : tie.Need-add-result
+add-result c = omega (arith, c .before .before .copy .ensures .0)
 
-loop-holds : tie.Need-loop-holds Inv-loop μ-loop
-loop-holds c = (omega arith, refl, rw (add-zero (c .args .at)))
-
-shared-slice-read-out : tie.Need-shared-slice-read-out Inv-loop μ-loop
-shared-slice-read-out c = omega arith
-
-add-out : tie.Need-add-out Inv-loop μ-loop
-add-out c = omega arith
-
-slice-write-out : tie.Need-slice-write-out Inv-loop μ-loop
-slice-write-out c = omega arith
-
-add-i : tie.Need-add-i Inv-loop μ-loop
-add-i c = omega arith
-
-loop-less : tie.Need-loop-less Inv-loop μ-loop
-loop-less c = omega arith
-
-loop-again : tie.Need-loop-again Inv-loop μ-loop
-loop-again c =
-    let bytes = c .before .before .before .args .bytes .now in
-    let at = c .before .before .before .args .at in
-    let l = c .before .before .loop in
-    let h : l .i < length bytes = omega arith in
-    let next : at + (l .i + 1) ≡ at + l .i + 1 = omega arith in (
-      omega arith,
-      simp length-set (omega arith),
-      rw (next, add-one (l .i))
-          (stored-next (l .out) (at + l .i) _ (drop (suc (l .i)) bytes) (simp length-drop (omega arith))
-          ∙ (rw (drop-cons bytes (l .i) 0 h) at (l .inv .2))),
-    )
-
-add-result : tie.Need-add-result Inv-loop μ-loop
-add-result c = omega arith
-
-same-length : tie.Need-same-length Inv-loop μ-loop
-same-length c = omega arith
-
-returns : tie.Need-returns Inv-loop μ-loop
+returns : tie.Need-returns
 returns c =
-    let l = c .before .loop in
-    let none : drop (l .i) (c .before .before .args .bytes .now) ≡ [] = drop-of-length-le (c .before .before .args .bytes .now) {i = l .i} (omega arith) in
-    (refl, sym (pasted-none (l .out) (c .before .before .args .at + l .i)) ∙ (rw none at (l .inv .2)))
+    let a = c .before .before .before .before .before .before .args in
+    let out = a .out .now in
+    let bytes = a .bytes .now in
+    let part = take (length out - a .at) (drop (a .at) out) in (
+      ap (λ (n : ℕ). a .at + n) (c .before .before .copy .ensures .0),
+      ap (putMid (a .at) (length out - a .at) out) (c .before .before .copy .ensures .1 ∙ ap (λ (l : List ℕ). l ++ drop (length bytes) part) (take-length bytes))
+          ∙ put-back out (a .at) bytes (omega arith),
+    )
 
 pub put-spec : {M : Type 1} → statement M
 put-spec =
     tie.close
     (tie.spec
-    Inv-loop
-    μ-loop
-    loop-holds
-    shared-slice-read-out
-    add-out
-    slice-write-out
-    add-i
-    loop-less
-    loop-again
+    (λ c. search needs)
+    (λ c. search needs)
+    (λ c. search needs)
+    copy-requires
     add-result
-    same-length
+    (λ c. search needs)
     returns)
