@@ -17,9 +17,9 @@ use Rattle.rules.specs.Decode.{restOf}
 use Rattle.rules.specs.Trace.{ownChannels}
 use Rattle.rules.specs.Strict.{accepted, strict, runsFit, chunkCount}
 use Rattle.rules.specs.Document.{indexesFilled}
-use Rattle.rules.specs.Encode.{chunksOf, streamOf, encoded, encoding}
+use Rattle.rules.specs.Encode.{PictureOf, chunksOf, streamOf, encoded, encoding}
 use Rattle.rules.proofs.PictureLaws.{every-byte, pixels-whole}
-use Rattle.demands.specs.Streams.{PictureOf, StrictAccepts, KeepsFilled, WroteStrictly}
+use Rattle.demands.specs.Streams.{StrictAccepts, KeepsFilled, WroteStrictly}
 use Rattle.demands.proofs.Strict.{strict-must-accept}
 use Rattle.demands.proofs.Traced.{visits-count, visits-fit, stream-opens, stream-times, stream-traced}
 use Rattle.demands.proofs.Filled.{start-filled}

@@ -8,15 +8,10 @@ use Rattle.pixel.specs.declared.types.ChannelsRead.the-variants as channels-rea
 use Rattle.pixel.specs.declared.types.ColorSpaceRead.the-variants as colorspace-read
 use Rattle.pixel.specs.Types.{channelsNumber, channelsFrom, colorSpaceFrom}
 use Rattle.header.specs.declared.Header.{Header}
-use Rattle.header.specs.Header.{pixelCount, dimensionsFit, encodedRoom}
-use Rattle.rules.specs.Encode.{chunksOf, streamOf}
+use Rattle.header.specs.Header.{encodedRoom}
+use Rattle.rules.specs.Encode.{PictureOf, chunksOf, streamOf}
 use Rattle.rules.specs.Strict.{accepted, strict}
 use Rattle.rules.specs.Document.{indexesFilled}
-
--- a picture of a header: its dimensions pass, and it is as long as its pixels need
-pub record PictureOf (header : Header) (picture : List ℕ) : Type 0 where
-  pub fit : T (dimensionsFit (header .width) (header .height))
-  pub needed : length picture ≡ pixelCount header * channelsNumber (header .channels)
 
 -- the strict check accepts the stream of a picture, with its header, as many chunks as the encoder chose, and all its
 -- bytes

@@ -131,7 +131,7 @@ space-number n s p = go (eqb n 0) refl (eqb n 1) refl
     go false e false f = cc (rw (e, f) at p)
 
 -- a header of figures that fit has those figures
-from-figures :
+pub from-figures :
     (width height : ℕ) (c : Channels) (s : ColorSpace) (h : Header) → headerFrom width height c s ≡ Ok h
     → T (dimensionsFit width height) × (record { width = width; height = height; channels = c; colorspace = s } ≡ h)
 unfolding headerFrom

@@ -10,5 +10,6 @@ pub mod StepLaws
 pub mod StuckLaws
 pub mod TraceLaws
 pub mod EncodeLaws
+pub mod HeadedLaws
 pub mod PenLaws
 pub mod PictureLaws

@@ -21,7 +21,7 @@ use Rattle.rules.specs.Decode.{decoderStores, decoderKeeps, decoderReads
 use Rattle.rules.specs.Trace.{Visit, visitsOn, chunkDue, visits, headerTrace, trace}
 use Rattle.rules.specs.Document.{documentReading, namesFilled, filledAfter, filledIn, indexesFilled}
 use Rattle.pixel.specs.Bytes.{pixelFrom, pixelsFrom}
-use Rattle.rules.specs.Encode.{EncodeAnswer, encoded, notEncoded, Encoding, fitsDiff, fitsLuma, diffChunk, lumaChunk, colourChunk, startPen, runEnded, slotHolds, differingChunk, pixelChunks, penAfter, chunksFrom, chunkBytes, chunksBytes, chunksOf, streamOf, encodingInto, afterSpace, afterCount, afterDimensions, encoding}
+use Rattle.rules.specs.Encode.{EncodeAnswer, encoded, notEncoded, Encoding, fitsDiff, fitsLuma, diffChunk, lumaChunk, colourChunk, startPen, runEnded, slotHolds, differingChunk, pixelChunks, penAfter, chunksFrom, chunkBytes, chunksBytes, chunksOf, streamOf, afterLength, afterDimensions, pictureHeader, encodingInto, afterSpace, afterPictureHeader, encoding}
 use Rattle.rules.specs.Step.{State, wellFormed, startState, Started, started, notStarted, startWanted, startHeader, starting, Step, stepBy, step, steppedOver, Ran, going, ended, running}
 use Rattle.rules.specs.Record.{Recorded, recorded, notRecorded, pixelsBytes, recordBytes, recording, recordedOver, afterNumber, acceptState, readSlots, readPositions, readWanted, readRecord}
 use Rattle.rules.specs.Strict.{StrictAnswer, strictClosed, strictClosing, strictCounted, strictBy, strictMove, strictFrom, strictHeader, strict, runsFitIn, runsFit, chunkCount}
@@ -251,7 +251,7 @@ unfolding sameTest stateOf stateAfter afterRun resumed checkpointed begun encode
     placeAfter bytesOf moveBy move reading readingInto afterWanted afterHeader wholeReading decoderStores decoderKeeps
     decoderReadsRgba fitsDiff fitsLuma diffChunk lumaChunk colourChunk startPen runEnded slotHolds differingChunk
     pixelChunks penAfter chunksFrom chunkBytes chunksBytes pixelFrom pixelsFrom chunksOf streamOf encodingInto
-    afterSpace afterCount afterDimensions encoding wellFormed startWanted startHeader starting stepBy step running
+    afterLength afterDimensions pictureHeader afterSpace afterPictureHeader encoding wellFormed startWanted startHeader starting stepBy step running
     pixelsBytes recordBytes recording recordedOver restOf afterNumber acceptState readSlots readPositions readWanted
     readRecord strictClosed strictClosing strictCounted strictBy strictMove strictFrom strictHeader strict runsFitIn
     namesFilled filledAfter chunkDue indexesFilled visitsOn visits headerTrace trace filledIn

@@ -3,12 +3,13 @@
 -- The order of refusals reads from the bottom up: the last definition of it makes the first test.
 use mathlib.Core.Bool.{Bool, true, false, cond, _&&_, _||_}
 use mathlib.Core.List.{List, [], _∷_, _++_}
+use mathlib.Core.Path.{_≡_}
 use Prim.Native.Nat.{ℕ, _+_, _-_, _*_, _/_, _%_}
-use lib.Dec.{ltb, eqb}
+use lib.Dec.{T, ltb, eqb}
 use lib.ListN.{length, getD, set, replicate}
 use Rattle.pixel.specs.declared.Pixel.{Pixel}
 use Rattle.pixel.specs.declared.error.Error.{Error}
-use Rattle.pixel.specs.declared.error.Error.the-variants.{InvalidImageLength, OutputBufferTooSmall}
+use Rattle.pixel.specs.declared.error.Error.the-variants.{InvalidImageDimensions, InvalidImageLength, OutputBufferTooSmall}
 use Rattle.pixel.specs.declared.types.ChannelsRead.{ChannelsRead}
 use Rattle.pixel.specs.declared.types.ChannelsRead.the-variants as channels-read
 use Rattle.pixel.specs.declared.types.ColorSpaceRead.{ColorSpaceRead}
@@ -19,7 +20,7 @@ use Rattle.pixel.specs.Types.{channelsNumber, channelsFrom, colorSpaceFrom}
 use Rattle.header.specs.declared.Header.{Header}
 use Rattle.header.specs.declared.HeaderRead.{HeaderRead}
 use Rattle.header.specs.declared.HeaderRead.the-variants as header-read
-use Rattle.header.specs.Header.{pixelCount, headerFrom, headerBytes, encodedRoom, withChannels, withColorSpace, defaultHeader}
+use Rattle.header.specs.Header.{pixelCount, dimensionsFit, headerFrom, headerBytes, encodedRoom, withChannels, withColorSpace, defaultHeader}
 use Rattle.rules.specs.Chunk.{Chunk, INDEX, DIFF, LUMA, RUN, RGB, RGBA, Stuck}
 use Rattle.rules.specs.Reading.{marker}
 
@@ -41,16 +42,19 @@ diffChunk r g b = DIFF (wrappedSum r 2) (wrappedSum g 2) (wrappedSum b 2)
 unfoldable pub lumaChunk : ℕ → ℕ → ℕ → Chunk
 lumaChunk r g b = LUMA (wrappedSum g 32) (wrappedSum (wrappedDifference r g) 8) (wrappedSum (wrappedDifference b g) 8)
 
--- if alpha is unchanged, the first fitting of DIFF, LUMA, RGB; else RGBA
+-- the first fitting of DIFF, LUMA, RGB, for a pixel with these differences
+abbrev pub shiftedChunk : Pixel → ℕ → ℕ → ℕ → Chunk
+shiftedChunk p r g b =
+    cond (fitsDiff r g b) (diffChunk r g b)
+    (cond (fitsLuma r g b) (lumaChunk r g b) (RGB (red p) (green p) (blue p)))
+
+-- if alpha is unchanged, that one; else RGBA
 unfoldable pub colourChunk : Pixel → Pixel → Chunk
 colourChunk previous p =
     let r = wrappedDifference (red p) (red previous) in
     let g = wrappedDifference (green p) (green previous) in
     let b = wrappedDifference (blue p) (blue previous) in
-    cond (eqb (alpha p) (alpha previous))
-    (cond (fitsDiff r g b) (diffChunk r g b)
-    (cond (fitsLuma r g b) (lumaChunk r g b) (RGB (red p) (green p) (blue p))))
-    (RGBA (red p) (green p) (blue p) (alpha p))
+    cond (eqb (alpha p) (alpha previous)) (shiftedChunk p r g b) (RGBA (red p) (green p) (blue p) (alpha p))
 
 -- what the encoder remembers; `differed`: some earlier pixel differed from its predecessor, the first from the start
 -- pixel
@@ -149,35 +153,57 @@ pub record Encoding : Type 0 where
 abbrev pub nothingEncoded : Error → Encoding
 nothingEncoded e = record { answer = notEncoded e; bytes = [] }
 
-module _ (picture : List ℕ) (room : ℕ) where
-  -- last 7: room required is 22 + pixels x (channels+1)
-  unfoldable pub encodingInto : Header → Encoding
-  encodingInto header =
-      let required = encodedRoom (header .width) (header .height) (channelsNumber (header .channels)) in
-      cond (ltb room required) (nothingEncoded (OutputBufferTooSmall room required))
-      (record { answer = encoded (length (streamOf header picture)); bytes = streamOf header picture })
+-- a picture of a header: its dimensions pass, and it is as long as its pixels need
+pub record PictureOf (header : Header) (picture : List ℕ) : Type 0 where
+  pub fit : T (dimensionsFit (header .width) (header .height))
+  pub needed : length picture ≡ pixelCount header * channelsNumber (header .channels)
 
-  -- then 3 for a colour space above 1
-  unfoldable pub afterSpace : Header → ColorSpaceRead → Encoding
-  afterSpace header (colorspace-read.Refused e) = nothingEncoded e
-  afterSpace header (colorspace-read.Ok colorspace) = encodingInto (withColorSpace header colorspace)
+-- then 2, carrying the quotient or 255 if larger
+unfoldable pub afterLength : Header → ChannelsRead → HeaderRead
+afterLength header (channels-read.Refused e) = header-read.Refused e
+afterLength header (channels-read.Ok channels) = header-read.Ok (withChannels header channels)
 
-  -- then 2, carrying the quotient or 255 if larger
-  unfoldable pub afterCount : Header → ℕ → ChannelsRead → Encoding
-  afterCount header colorspace (channels-read.Refused e) = nothingEncoded e
-  afterCount header colorspace (channels-read.Ok channels) =
-      afterSpace (withChannels header channels) (colorSpaceFrom colorspace)
-
+module _ (picture : List ℕ) where
   -- then 6 if the length is not a multiple of the pixels
-  unfoldable pub afterDimensions : ℕ → HeaderRead → Encoding
-  afterDimensions colorspace (header-read.Refused e) = nothingEncoded e
-  afterDimensions colorspace (header-read.Ok header) =
+  unfoldable pub afterDimensions : HeaderRead → HeaderRead
+  afterDimensions (header-read.Refused e) = header-read.Refused e
+  afterDimensions (header-read.Ok header) =
       cond (eqb (length picture % pixelCount header) 0)
-      (afterCount header colorspace (channelsFrom (length picture / pixelCount header)))
-      (nothingEncoded (InvalidImageLength (length picture) (header .width) (header .height)))
+      (afterLength header (channelsFrom (length picture / pixelCount header)))
+      (header-read.Refused (InvalidImageLength (length picture) (header .width) (header .height)))
+
+  -- the header of a picture of these dimensions: 5, 6, 2
+  unfoldable pub pictureHeader : ℕ → ℕ → HeaderRead
+  pictureHeader width height =
+      afterDimensions (headerFrom width height (defaultHeader .channels) (defaultHeader .colorspace))
+
+  module _ (room : ℕ) where
+    -- last 7: room required is 22 + pixels x (channels+1)
+    unfoldable pub encodingInto : Header → Encoding
+    encodingInto header =
+        let required = encodedRoom (header .width) (header .height) (channelsNumber (header .channels)) in
+        cond (ltb room required) (nothingEncoded (OutputBufferTooSmall room required))
+        (record { answer = encoded (length (streamOf header picture)); bytes = streamOf header picture })
+
+    -- then 3 for a colour space above 1
+    unfoldable pub afterSpace : Header → ColorSpaceRead → Encoding
+    afterSpace header (colorspace-read.Refused e) = nothingEncoded e
+    afterSpace header (colorspace-read.Ok colorspace) = encodingInto (withColorSpace header colorspace)
+
+    -- first the header
+    unfoldable pub afterPictureHeader : ℕ → HeaderRead → Encoding
+    afterPictureHeader colorspace (header-read.Refused e) = nothingEncoded e
+    afterPictureHeader colorspace (header-read.Ok header) = afterSpace header (colorSpaceFrom colorspace)
+
+    -- encoding a picture under a header that is given: 5, then 6 if the picture has another length, then 7
+    unfoldable pub encodingUnder : Header → Encoding
+    encodingUnder header =
+        cond (dimensionsFit (header .width) (header .height))
+        (cond (eqb (length picture) (pixelCount header * channelsNumber (header .channels))) (encodingInto header)
+        (nothingEncoded (InvalidImageLength (length picture) (header .width) (header .height))))
+        (nothingEncoded (InvalidImageDimensions (header .width) (header .height)))
 
 -- encoding a picture of these dimensions and this colour space into `room` bytes: 5, 6, 2, 3, 7
 unfoldable pub encoding : List ℕ → ℕ → ℕ → ℕ → ℕ → Encoding
 encoding picture width height colorspace room =
-    afterDimensions picture room colorspace
-    (headerFrom width height (defaultHeader .channels) (defaultHeader .colorspace))
+    afterPictureHeader picture room colorspace (pictureHeader picture width height)
