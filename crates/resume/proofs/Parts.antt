@@ -2,19 +2,17 @@
 -- Assumes nothing.
 use Prim.Native.Nat.{ℕ, _+_, _-_, _≤_}
 use mathlib.Core.Path.{_≡_}
-use mathlib.Core.List.{List, _++_, append-nil, append-assoc}
+use mathlib.Core.List.{List, _++_, append-assoc}
 use native.Mathlib.Omega.{arith}
 use lib.ListN.{length, take, drop, length-append}
-use lib.Seq.{drop-drop, drop-length}
 use borrow.Author.Tests.{le-leb}
-use borrow.Rule.Slice.PartMut.{putMid, post-is}
 use Rattle.number.specs.Seven.{sevenBits, writtenNumber}
 use Rattle.header.specs.Header.{headerBytes}
 use Rattle.header.proofs.Laws.{header-length}
 use Rattle.rules.specs.Bytes.{pasted}
 use Rattle.rules.specs.Step.{State}
 use Rattle.rules.specs.Record.{pixelsBytes, recordBytes}
-use Rattle.rules.proofs.PastingLaws.{whole-tail, pasted-next}
+use Rattle.rules.proofs.PastingLaws.{pasted-next}
 
 -- a part put, and then the one after it
 pub put-next :
@@ -28,13 +26,6 @@ pub number-written :
     → writtenNumber value out ≡ sevenBits value ++ drop (length (sevenBits value)) out
 unfolding writtenNumber
 number-written value out fits = rw (le-leb (length (sevenBits value)) (length out) fits)
-
--- the part from a place on, with bytes put at its front, back in its place
-pub put-back :
-    (out : List ℕ) (at : ℕ) (bytes : List ℕ) → at ≤ length out
-    → putMid at (length out - at) out (bytes ++ drop (length bytes) (take (length out - at) (drop at out))) ≡ pasted at bytes out
-put-back out at bytes within =
-    rw (post-is at (length out) out within, whole-tail out at, drop-drop (length bytes) at out, drop-length out, append-nil)
 
 module _ (s : State) where
   -- the bytes of the three numbers

@@ -2,12 +2,11 @@
 use mathlib.Core.Path.{_≡_}
 use mathlib.Core.List.{List}
 use mathlib.Core.Bool.{_||_}
-use Prim.Native.Nat.{ℕ, _+_, _≤_}
+use Prim.Native.Nat.{ℕ, _≤_}
 use lib.Dec.{T, eqb}
 use lib.ListN.{length}
 use Rattle.number.specs.Seven.{readNumber}
 use Rattle.header.specs.declared.Header.{Header}
-use Rattle.rules.specs.Bytes.{pasted}
 use Rattle.rules.specs.Reading.{sizeWanted}
 use Rattle.rules.specs.Step.{State, wellFormed, Started}
 use Rattle.rules.specs.Record.{afterNumber, readSlots}
@@ -31,7 +30,3 @@ pub record Ready (s : State) (message out : List ℕ) (required : ℕ) : Type 0 
   pub counted : required ≡ sizeWanted (s .header) (s .wanted)
   pub room : required ≤ length out
   pub inside : s .place .at ≤ length message
-
--- bytes are put into a part that held `before`, at a place: where they end, and what the part holds then
-abbrev pub Puts : ℕ → List ℕ → List ℕ → ℕ → List ℕ → Type 0
-Puts at bytes before r after = (r ≡ at + length bytes) × (after ≡ pasted at bytes before)

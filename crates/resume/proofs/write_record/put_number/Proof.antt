@@ -8,8 +8,8 @@ use lib.ListN.{length, take, drop, length-drop}
 use borrow.Author.Needs.{needs}
 use borrow.Rule.Slice.PartMut.{putMid}
 use Rattle.number.specs.Seven.{sevenBits}
-use Rattle.rules.proofs.PastingLaws.{whole-tail}
-use Rattle.resume.proofs.Parts.{number-written, put-back}
+use Rattle.rules.proofs.PastingLaws.{whole-tail, put-back}
+use Rattle.resume.proofs.Parts.{number-written}
 use Rattle.resume.proofs.write_record.put_number.Statement.{statement}
 use Rattle.resume.proofs.write_record.put_number.Tie as tie
 

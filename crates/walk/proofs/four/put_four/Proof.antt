@@ -4,7 +4,7 @@ use native.Mathlib.Omega.{arith}
 use lib.ListN.{length-set}
 use borrow.Author.Needs.{needs}
 use Rattle.pixel.specs.Packed.{unpacked}
-use Rattle.walk.proofs.Pasting.{stored-four}
+use Rattle.rules.proofs.PastingLaws.{stored-four}
 use Rattle.walk.proofs.four.put_four.Statement.{statement}
 use Rattle.walk.proofs.four.put_four.Tie as tie
 

@@ -4,7 +4,7 @@ use native.Mathlib.Omega.{arith}
 use lib.ListN.{length-set}
 use borrow.Author.Needs.{needs}
 use Rattle.pixel.specs.Packed.{unpacked}
-use Rattle.walk.proofs.Pasting.{stored-three}
+use Rattle.rules.proofs.PastingLaws.{stored-three}
 use Rattle.walk.proofs.three.put_three.Statement.{statement}
 use Rattle.walk.proofs.three.put_three.Tie as tie
 
