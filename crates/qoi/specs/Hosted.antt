@@ -5,9 +5,10 @@ use Prim.Native.Nat.{ℕ}
 use lib.ListN.{length}
 use Rattle.rules.specs.Bytes.{writtenOver}
 use Rattle.rules.specs.Decode.{decoding}
+use Rattle.rules.specs.Encode.{encoding}
 use Rattle.rules.specs.Step.{State, Started, started, notStarted, Ran, going, ended, outputOf, starting, running}
 use Rattle.rules.specs.Record.{Recorded, recorded, notRecorded, recording, recordedOver, readRecord}
-use Rattle.rules.specs.Figures.{refusalFigures, answerFigures}
+use Rattle.rules.specs.Figures.{refusalFigures, answerFigures, encodeFigures}
 
 -- writing a record: the number and the record's length, or why it was not written
 abbrev pub recordedFigures : ℕ → Recorded → List ℕ
@@ -57,6 +58,11 @@ abbrev pub IsDecode : List ℕ → ℕ → List ℕ → List ℕ → List ℕ �
 IsDecode message wanted out figures left =
     (figures ≡ answerFigures (decoding message wanted (length out) .answer))
     × (left ≡ writtenOver (decoding message wanted (length out) .bytes) out)
+
+abbrev pub IsEncode : List ℕ → ℕ → ℕ → ℕ → List ℕ → List ℕ → List ℕ → Type 0
+IsEncode picture width height colorspace out figures left =
+    (figures ≡ encodeFigures (encoding picture width height colorspace (length out) .answer))
+    × (left ≡ writtenOver (encoding picture width height colorspace (length out) .bytes) out)
 
 abbrev pub IsStart : List ℕ → ℕ → List ℕ → List ℕ → List ℕ → Type 0
 IsStart message wanted part figures left =

@@ -4,8 +4,9 @@ ghost use mathlib.Core.List.{_∷_, []};
 ghost use Rattle.header.specs.Header.{headerOf};
 ghost use Rattle.rules.specs.Figures.{refusalFigures, headerFigures};
 ghost use Rattle.resume.specs.State.{stateOf};
-ghost use Rattle.qoi.specs.Hosted.{IsDecode, IsRecord, IsStart, IsRun};
+ghost use Rattle.qoi.specs.Hosted.{IsDecode, IsEncode, IsRecord, IsStart, IsRun};
 use decode::Decoded;
+use encode::Encoded;
 use header::HeaderRead;
 use pixel::error::Error;
 use pixel::error::FourFigures;
@@ -74,6 +75,24 @@ pub extern "C" fn pivotshade_decode(
     match decode::decode(message, wanted, out) {
         Decoded::Refused(e) => refuse(e, figures),
         Decoded::Done { size, used } => answer(0, size as u64, used as u64, figures),
+    }
+}
+
+// Bytes written by the encode of a picture, whose length gives 3 or 4 channels.
+#[no_mangle]
+pub extern "C" fn pivotshade_encode(
+    pixels: &[u8],
+    width: u32,
+    height: u32,
+    colorspace: u64,
+    out: &mut [u8],
+    figures: &mut FourFigures,
+) -> u64
+    ensures { λ r. ⌜ IsEncode (now (pixels .entry)) width height colorspace (now (out .entry)) (r ∷ now (figures .exit)) (now (out .exit)) ⌝ }
+{
+    match encode::encode(pixels, width, height, colorspace, out) {
+        Encoded::Refused(e) => refuse(e, figures),
+        Encoded::Done { size } => answer(0, size as u64, 0, figures),
     }
 }
 

@@ -1,0 +1,3 @@
+-- The definitions of crate `encode`.
+pub mod Asked
+pub mod Encoded
