@@ -21,6 +21,13 @@ add_packages() {
     echo "installing $*" >&2
     quietly apt-get install -y --no-install-recommends "$@"
 }
+# can_have TEST PACKAGE...: whether the command TEST succeeds, where it does not at once after the packages are installed, if one may
+can_have() {
+    "$1" && return
+    may_install || return
+    add_packages "${@:2}" || { quietly apt-get update && add_packages "${@:2}"; } || return
+    "$1"
+}
 
 # find_rust: sets `oracle`, the Rust's folder, and has what cargo needs to build it
 find_rust() {
@@ -28,11 +35,7 @@ find_rust() {
     [ -f "$oracle/Cargo.toml" ] || fail "no crate qoi at $oracle; name its folder in QOI_ORACLE"
     oracle=$(cd -- "$oracle" && pwd)
     command -v cargo >/dev/null || fail "cargo is missing"
-    if ! has_bytemuck; then
-        may_install || fail "install the Debian package librust-bytemuck-dev"
-        add_packages librust-bytemuck-dev || { quietly apt-get update && add_packages librust-bytemuck-dev; } || true
-        has_bytemuck || fail "librust-bytemuck-dev was not installed"
-    fi
+    can_have has_bytemuck librust-bytemuck-dev || fail "install the Debian package librust-bytemuck-dev"
 }
 has_bytemuck() { compgen -G '/usr/share/cargo/registry/bytemuck-*' >/dev/null; }
 

@@ -1,34 +1,69 @@
-// The command `bench`: decode timed against the Rust's, and runs of some thousand steps against decode, in one process, by turns, the least of
-// many times.
+// The command `bench`: decode timed against the Rust's, runs of some thousand steps against decode, and encode against the Rust's and qoi.h's, in
+// one process, by turns, the least of many times.
 //
-// Both read the same message and write the same output: one buffer of exactly the length needed, lent to each in turn, so that length,
-// alignment and what the caches hold are the same for both. Both calls read the header, test the output's length and decode.
+// All read the same input and write the same output: one buffer of exactly the length needed, lent to each in turn, so that length, alignment
+// and what the caches hold are the same for each; but qoi.h writes to memory of its own. Each decode reads the header, tests the output's length
+// and decodes; each encode tests pixels and output, writes the header and encodes.
 use crate::answer::Answer;
 use crate::images;
 use crate::pictures::{self, Picture};
 use crate::port::MORE;
+#[cfg(feature = "qoi_h")]
+use crate::qoi_h;
 use crate::{oracle, port};
 use std::path::Path;
 use std::process::ExitCode;
 use std::time::Instant;
 
-/// How many pixels each decodes for one line of the table, and in how many turns at least.
-const PIXELS: usize = 300_000_000;
+/// How many pixels each decodes for one line of the table, how many each encodes, and in how many turns at least.
+const DECODED: usize = 300_000_000;
+const ENCODED: usize = 100_000_000;
 const TURNS: usize = 100;
 
 /// The steps of a run: what a worker does between two checkpoints.
 const SLICE: u64 = 4096;
 
 type Decode = fn(&[u8], u64, &mut [u8]) -> Answer;
-type Make = fn(usize) -> Picture;
+type Encode = fn(&Picture, &mut [u8]) -> Answer;
 
-/// Nanoseconds of one call.
-fn time(decode: Decode, message: &[u8], wanted: u64, out: &mut [u8]) -> f64 {
-    let start = Instant::now();
-    let answer = decode(message, wanted, out);
-    let elapsed = start.elapsed();
-    assert!(answer.is_accepted(), "{answer}");
-    elapsed.as_nanos() as f64
+/// Those that encode: the port first, which is compared with each of the others.
+const ENCODERS: &[(&str, Encode)] = &[
+    ("ours", |picture, out| {
+        port::encode(&picture.pixels, picture.width, picture.height, 0, out)
+    }),
+    ("Rust", |picture, out| {
+        oracle::encode(&picture.pixels, picture.width, picture.height, 0, out)
+    }),
+    #[cfg(feature = "qoi_h")]
+    ("qoi.h", |picture, _| qoi_h::encode(picture)),
+];
+
+/// A picture, and a message that is decoded to it.
+struct Sample {
+    name: String,
+    picture: Picture,
+    message: Vec<u8>,
+}
+
+/// The least time of each of so many callers, in nanoseconds. Each goes first as often as the others.
+fn race(
+    callers: usize,
+    call: impl Fn(usize, &mut [u8]) -> Answer,
+    out: &mut [u8],
+    turns: usize,
+) -> Vec<f64> {
+    let mut least = vec![f64::MAX; callers];
+    for turn in 0..turns.max(TURNS) {
+        for place in 0..callers {
+            let which = (turn + place) % callers;
+            let start = Instant::now();
+            let answer = call(which, out);
+            let elapsed = start.elapsed();
+            assert!(answer.is_accepted(), "{answer}");
+            least[which] = least[which].min(elapsed.as_nanos() as f64);
+        }
+    }
+    least
 }
 
 /// A whole decode as a worker does it: a start, then run after run, each from the record that the one before it left.
@@ -48,55 +83,29 @@ fn decode_in_slices(message: &[u8], wanted: u64, out: &mut [u8]) -> Answer {
     }
 }
 
-/// The least time of one and of the other.
-fn race(one: Decode, other: Decode, message: &[u8], wanted: u64, pixels: usize) -> (f64, f64) {
-    let mut out = vec![0; pixels * wanted as usize];
-    let mut others = out.clone();
-    assert!(one(message, wanted, &mut out).is_accepted());
-    assert!(other(message, wanted, &mut others).is_accepted());
-    assert!(out == others, "the pixels differ: run ./compare");
-    let (mut ones, mut others) = (f64::MAX, f64::MAX);
-    for turn in 0..(PIXELS / pixels).max(TURNS) {
-        // each goes first as often as the other
-        if turn % 2 == 0 {
-            ones = ones.min(time(one, message, wanted, &mut out));
-        }
-        others = others.min(time(other, message, wanted, &mut out));
-        if turn % 2 == 1 {
-            ones = ones.min(time(one, message, wanted, &mut out));
-        }
-    }
-    (ones, others)
-}
-
 /// The published images; those of three channels, which are photographs, also with four; and what can be made of nothing.
-fn messages(folder: &Path) -> Vec<(String, Vec<u8>)> {
-    let mut messages = Vec::new();
-    for image in images::read(folder) {
-        let [width, height, channels, _] = image.expected[0].0;
-        messages.push((image.name.clone(), image.message.clone()));
-        if channels == 3 {
-            let mut pixels = vec![0; (width * height * 4) as usize];
-            oracle::decode(&image.message, 4, &mut pixels);
-            let message = oracle::encode(&pixels, width as u32, height as u32, 0);
-            messages.push((format!("{}, 4", image.name), message));
-        }
-    }
-    if messages.is_empty() {
+fn samples(folder: &Path) -> Vec<Sample> {
+    let images = images::read(folder);
+    if images.is_empty() {
         println!("no images at hand: no photograph is timed");
     }
-    let made: [(&str, Make); 4] = [
-        ("page of text", pictures::page),
-        ("rain field", pictures::rain),
-        ("flat", pictures::flat),
-        ("noise", pictures::noise),
-    ];
-    for (name, make) in made {
-        for channels in [3, 4] {
-            messages.push((format!("{name}, {channels}"), make(channels).encoded(0)));
-        }
-    }
-    messages
+    let published = images.iter().flat_map(|image| image.pictures());
+    published
+        .chain(pictures::large())
+        .map(|(name, picture)| {
+            let image = images.iter().find(|image| image.name == name);
+            let message = image.map_or_else(|| picture.encoded(0), |image| image.message.clone());
+            Sample {
+                name,
+                picture,
+                message,
+            }
+        })
+        .collect()
+}
+
+fn pixels(picture: &Picture) -> usize {
+    picture.pixels.len() / picture.channels
 }
 
 fn geometric_mean(ratios: &[f64]) -> f64 {
@@ -104,58 +113,137 @@ fn geometric_mean(ratios: &[f64]) -> f64 {
     (logarithms / ratios.len() as f64).exp()
 }
 
-/// One table: a line for each message and wanted, then the means and the largest.
-fn table(names: [&str; 2], one: Decode, other: Decode, messages: &[(String, Vec<u8>)]) {
+/// Ratios, and the largest of them with the name of its line.
+#[derive(Default)]
+struct Ratios {
+    all: Vec<f64>,
+    largest: (f64, String),
+}
+
+impl Ratios {
+    fn push(&mut self, ratio: f64, line: &str) {
+        self.all.push(ratio);
+        if ratio > self.largest.0 {
+            self.largest = (ratio, line.to_string());
+        }
+    }
+}
+
+/// The least times of two decodes, which must leave the same pixels.
+fn race_decodes(one: Decode, other: Decode, sample: &Sample, wanted: u64) -> Vec<f64> {
+    let message = &sample.message[..];
+    let pixels = pixels(&sample.picture);
+    let mut out = vec![0; pixels * wanted as usize];
+    let mut others = out.clone();
+    assert!(one(message, wanted, &mut out).is_accepted());
+    assert!(other(message, wanted, &mut others).is_accepted());
+    assert!(out == others, "the pixels differ: run ./compare");
+    let call = |which: usize, out: &mut [u8]| [one, other][which](message, wanted, out);
+    race(2, call, &mut out, DECODED / pixels)
+}
+
+/// A table of decodes: a line for each message and wanted, then the means and the largest.
+fn decode_table(names: [&str; 2], one: Decode, other: Decode, samples: &[Sample]) {
     println!(
         "{:24} {:>8} {:>7} {:>10} {:>10} {:>7}",
         "message", "pixels", "wanted", names[0], names[1], "ratio"
     );
-    let mut ratios = [Vec::new(), Vec::new()];
-    let mut largest = (0.0, String::new());
-    for (name, message) in messages {
-        let [width, height, _, _] = oracle::header(message).figures;
-        let pixels = (width * height) as usize;
+    let mut ratios = Ratios::default();
+    for sample in samples {
+        let (name, pixels) = (&sample.name, pixels(&sample.picture));
         for wanted in [3, 4] {
-            let (ones, others) = race(one, other, message, wanted, pixels);
-            let ratio = ones / others;
+            let times = race_decodes(one, other, sample, wanted);
+            let ratio = times[0] / times[1];
             println!(
                 "{name:24} {pixels:8} {wanted:7} {:10.1} {:10.1} {ratio:7.3}",
-                ones / 1e3,
-                others / 1e3
+                times[0] / 1e3,
+                times[1] / 1e3
             );
-            ratios[wanted as usize - 3].push(ratio);
-            if ratio > largest.0 {
-                largest = (ratio, format!("{name}, to {wanted}"));
-            }
+            ratios.push(ratio, &format!("{name}, to {wanted}"));
         }
     }
-    let [three, four] = &ratios;
+    for (first, wanted) in ["three", "four"].iter().enumerate() {
+        let some: Vec<f64> = ratios.all.iter().skip(first).step_by(2).copied().collect();
+        println!(
+            "{wanted} channels wanted: geometric mean {:.3}",
+            geometric_mean(&some)
+        );
+    }
     println!(
-        "three channels wanted: geometric mean {:.3}",
-        geometric_mean(three)
+        "largest ratio {:.3}: {}",
+        ratios.largest.0, ratios.largest.1
     );
-    println!(
-        "four channels wanted: geometric mean {:.3}",
-        geometric_mean(four)
-    );
-    println!("largest ratio {:.3}: {}", largest.0, largest.1);
-    println!("geometric mean {:.3}", geometric_mean(&ratios.concat()));
+    println!("geometric mean {:.3}", geometric_mean(&ratios.all));
 }
 
-pub fn run(folder: &Path) -> ExitCode {
-    let messages = messages(folder);
-    println!("The least of many times, in microseconds; a number after a name: the channels it was encoded with here.");
-    println!("decode against the Rust's:");
-    table(["ours", "Rust"], port::decode, oracle::decode, &messages);
+/// The least time of each encoder. The port must write the Rust's bytes, and all of them as many.
+fn race_encoders(picture: &Picture) -> Vec<f64> {
+    let mut out = vec![0; picture.room()];
+    let answer = ENCODERS[0].1(picture, &mut out);
+    let is_same = out.starts_with(&picture.encoded(0));
+    assert!(is_same, "the bytes differ: run ./compare");
+    for (name, encode) in ENCODERS {
+        let others = encode(picture, &mut out);
+        assert!(others == answer, "{name} writes another length");
+    }
+    let call = |which: usize, out: &mut [u8]| ENCODERS[which].1(picture, out);
+    race(ENCODERS.len(), call, &mut out, ENCODED / pixels(picture))
+}
+
+/// The table of encodes: a line for each picture, then the means and the largest against each of the others.
+fn encode_table(samples: &[Sample]) {
+    print!("{:24} {:>8} {:>8}", "picture", "pixels", "channels");
+    for (name, _) in ENCODERS {
+        print!(" {name:>10}");
+    }
+    let others = &ENCODERS[1..];
+    for (name, _) in others {
+        print!(" {:>10}", format!("to {name}"));
+    }
     println!();
-    println!(
-        "runs of {SLICE} steps, each from the record that the one before it left, against decode:"
-    );
-    table(
-        ["runs", "decode"],
-        decode_in_slices,
-        port::decode,
-        &messages,
-    );
+    let mut ratios: Vec<Ratios> = others.iter().map(|_| Ratios::default()).collect();
+    for sample in samples {
+        let (name, picture) = (&sample.name, &sample.picture);
+        print!("{name:24} {:8} {:8}", pixels(picture), picture.channels);
+        let times = race_encoders(picture);
+        for time in &times {
+            print!(" {:10.1}", time / 1e3);
+        }
+        for (ratios, time) in ratios.iter_mut().zip(&times[1..]) {
+            let ratio = times[0] / time;
+            print!(" {ratio:10.3}");
+            ratios.push(ratio, name);
+        }
+        println!();
+    }
+    for ((name, _), ratios) in others.iter().zip(&ratios) {
+        println!(
+            "against {name}: geometric mean {:.3}, largest ratio {:.3}: {}",
+            geometric_mean(&ratios.all),
+            ratios.largest.0,
+            ratios.largest.1
+        );
+    }
+}
+
+pub fn run(folder: &Path, is_encode_only: bool) -> ExitCode {
+    let samples = samples(folder);
+    println!("The least of many times, in microseconds; a number after a name: the channels it was encoded with here.");
+    if !is_encode_only {
+        println!("decode against the Rust's:");
+        decode_table(["ours", "Rust"], port::decode, oracle::decode, &samples);
+        println!();
+        println!(
+            "runs of {SLICE} steps, each from the record that the one before it left, against decode:"
+        );
+        let names = ["runs", "decode"];
+        decode_table(names, decode_in_slices, port::decode, &samples);
+        println!();
+    }
+    println!("encode against the Rust's and qoi.h's:");
+    if !cfg!(feature = "qoi_h") {
+        println!("no qoi.h at hand, which is Debian's libqoi-dev: it is not timed");
+    }
+    encode_table(&samples);
     ExitCode::SUCCESS
 }

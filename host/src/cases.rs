@@ -1,6 +1,7 @@
 // The kinds of cases: which messages, wanted channels and outputs the port and the Rust are called with.
 use crate::budgets::budgets;
 use crate::check::{Check, MARKER};
+use crate::encodes;
 use crate::histories::histories;
 use crate::messages::{
     self, accepted_message, any_header, damage, good_message, header, mostly_accepted,
@@ -19,7 +20,7 @@ pub enum Cases {
     Fewer(u64, fn(&mut Check, &mut Random)),
 }
 
-pub const KINDS: [(&str, Cases); 25] = [
+pub const KINDS: [(&str, Cases); 41] = [
     (
         "headers, each byte at each place",
         Cases::All(10 * 14 * 256, each_header_byte),
@@ -66,6 +67,46 @@ pub const KINDS: [(&str, Cases); 25] = [
     ),
     ("records, damaged", Cases::Some(records::damaged)),
     ("records, numbers in them", Cases::Some(records::numbers)),
+    (
+        "encode: 1x1, three channels",
+        Cases::All(encodes::EVERY_RGB, encodes::one_rgb),
+    ),
+    (
+        "encode: 1x1, four channels",
+        Cases::All(encodes::EDGES_RGBA, encodes::one_rgba),
+    ),
+    (
+        "encode: 2x1, near each range's end",
+        Cases::All(encodes::NEAR_PAIRS, encodes::near_pairs),
+    ),
+    (
+        "encode: 2 to 4 pixels, range ends",
+        Cases::Some(encodes::edge_rows),
+    ),
+    (
+        "encode: 1 to 5 of 12 pixels",
+        Cases::All(encodes::FEW_ROWS, encodes::few_rows),
+    ),
+    ("encode: runs", Cases::All(encodes::RUNS, encodes::runs)),
+    ("encode: alpha changes", Cases::Some(encodes::alphas)),
+    ("encode: slot collisions", Cases::Some(encodes::collisions)),
+    ("encode: textured", Cases::Some(encodes::textured)),
+    ("encode: rain fields", Cases::Fewer(4, encodes::rain)),
+    ("encode: longest chunks", Cases::Some(encodes::longest)),
+    (
+        "encode: outputs too short",
+        Cases::Some(encodes::short_outputs),
+    ),
+    (
+        "encode: outputs longer than needed",
+        Cases::Some(encodes::longer_outputs),
+    ),
+    ("encode: wrong lengths", Cases::Some(encodes::wrong_lengths)),
+    (
+        "encode: faults combined",
+        Cases::All(encodes::FAULTS, encodes::faults),
+    ),
+    ("encode: random faults", Cases::Some(encodes::random_faults)),
 ];
 
 /// No output of a case is longer, but those of the images.
@@ -89,14 +130,14 @@ fn decode_to_both(check: &mut Check, message: &[u8]) {
 }
 
 /// Takes a number apart: its last digit, of `n` digits; the others are left.
-fn digit(number: &mut u64, n: u64) -> u64 {
+pub fn digit(number: &mut u64, n: u64) -> u64 {
     let digit = *number % n;
     *number /= n;
     digit
 }
 
 /// The sequences over n letters by number, the shorter ones first: 0 is the empty one.
-fn sequence(mut number: u64, letters: u64) -> Vec<u8> {
+pub fn sequence(mut number: u64, letters: u64) -> Vec<u8> {
     let mut sequence = Vec::new();
     while number > 0 {
         number -= 1;

@@ -17,10 +17,11 @@ const PATTERNS: usize = 1021;
 const KEPT: usize = 5;
 const SHOWN: usize = 2000;
 
-/// How many cases the Rust answered with each number (of records: the rules), and how often the port did otherwise.
+/// How many cases the Rust answered with each number (of records: the rules), how many of them were encodes, and how often the port did otherwise.
 #[derive(Clone, Copy, Default)]
 pub struct Tally {
     pub answers: [u64; 10],
+    pub encodes: u64,
     pub differences: u64,
 }
 
@@ -33,6 +34,7 @@ impl Tally {
         for (sum, more) in self.answers.iter_mut().zip(other.answers) {
             *sum += more;
         }
+        self.encodes += other.encodes;
         self.differences += other.differences;
     }
 }
@@ -79,7 +81,7 @@ impl Check {
 
     /// A case of decode, into an output of `room` bytes.
     pub fn decode(&mut self, message: &[u8], wanted: u64, room: usize) {
-        let (rusts, result) = self.both(message, wanted, room);
+        let (rusts, result) = self.both_decode(message, wanted, room);
         self.tally.answers[rusts.number as usize] += 1;
         if let Err(text) = result.and_then(|ours| self.used(ours, message, wanted, room)) {
             self.differs(
@@ -87,6 +89,24 @@ impl Check {
                 &text,
                 message,
             );
+        }
+    }
+
+    /// A case of encode, into an output of `room` bytes.
+    pub fn encode(&mut self, pixels: &[u8], size: (u32, u32), colorspace: u64, room: usize) {
+        let (width, height) = size;
+        let (rusts, result) = self.both(
+            room,
+            |out| port::encode(pixels, width, height, colorspace, out),
+            |out, _| oracle::encode(pixels, width, height, colorspace, out),
+        );
+        self.tally.answers[rusts.number as usize] += 1;
+        self.tally.encodes += 1;
+        if let Err(text) = result.and_then(|ours| self.comes_back(ours, pixels, size)) {
+            let call = format!(
+                "encode of {width}x{height}, colour space {colorspace}, output of {room} bytes"
+            );
+            self.differs_on(&call, &text, "picture", pixels);
         }
     }
 
@@ -113,12 +133,12 @@ impl Check {
         }
     }
 
-    /// The Rust's answer, and the port's if it is the same in number, figures and memory.
+    /// The Rust's answer, and the port's if it is the same in number, figures and memory. The Rust's call is told the port's answer.
     fn both(
         &mut self,
-        message: &[u8],
-        wanted: u64,
         room: usize,
+        port: impl FnOnce(&mut [u8]) -> Answer,
+        rust: impl FnOnce(&mut [u8], Answer) -> Answer,
     ) -> (Answer, Result<Answer, String>) {
         self.turn += 1;
         let start = MARGIN + self.turn % 8;
@@ -130,15 +150,18 @@ impl Check {
             memory.clear();
             memory.extend_from_slice(before);
         }
-        let ours = port::decode(message, wanted, &mut self.ours[start..end]);
-        let mut rusts = oracle::decode(message, wanted, &mut self.rusts[start..end]);
-        if rusts.is_accepted() {
-            // the Rust does not say how many bytes it used: `used` finds out
-            rusts.figures[1] = ours.figures[1];
+        let ours = port(&mut self.ours[start..end]);
+        let rusts = rust(&mut self.rusts[start..end], ours);
+        if ours != rusts {
+            return (rusts, Err(format!("port {ours}, Rust {rusts}")));
         }
-        let result = if ours != rusts {
-            Err(format!("port {ours}, Rust {rusts}"))
-        } else if self.ours != self.rusts {
+        // how far the output may be written, by the answer
+        let most = match ours.number {
+            0 => ours.figures[0] as usize,
+            2..=7 => 0,
+            _ => room,
+        };
+        let result = if self.ours != self.rusts {
             let place = (0..before.len())
                 .find(|&i| self.ours[i] != self.rusts[i])
                 .expect("they differ");
@@ -147,12 +170,52 @@ impl Check {
                 "both {ours}; output byte {}: port {o:02x}, Rust {r:02x}, before {b:02x}",
                 place as isize - start as isize
             ))
-        } else if (2..=7).contains(&ours.number) && self.ours != before {
-            Err(format!("both {ours}, and both wrote"))
+        } else if self.ours[start + most..] != before[start + most..] {
+            Err(format!("both {ours}, and both wrote after {most} bytes"))
         } else {
             Ok(ours)
         };
         (rusts, result)
+    }
+
+    fn both_decode(
+        &mut self,
+        message: &[u8],
+        wanted: u64,
+        room: usize,
+    ) -> (Answer, Result<Answer, String>) {
+        let rust = |out: &mut [u8], ours: Answer| {
+            let mut rusts = oracle::decode(message, wanted, out);
+            if rusts.is_accepted() {
+                // the Rust does not say how many bytes it used: `used` finds out
+                rusts.figures[1] = ours.figures[1];
+            }
+            rusts
+        };
+        self.both(room, |out| port::decode(message, wanted, out), rust)
+    }
+
+    /// What an accepted encode wrote is, to its last byte, a message of the same picture, for the port and for the Rust.
+    fn comes_back(
+        &mut self,
+        ours: Answer,
+        pixels: &[u8],
+        (width, height): (u32, u32),
+    ) -> Result<(), String> {
+        if !ours.is_accepted() {
+            return Ok(());
+        }
+        let [size, ..] = ours.figures;
+        let message = self.written(size as usize).to_vec();
+        let length = pixels.len() as u64;
+        let channels = length / (u64::from(width) * u64::from(height));
+        let again = self.both_decode(&message, channels, pixels.len()).1?;
+        if again != Answer::accepted([length, size, 0, 0]) || self.written(pixels.len()) != pixels {
+            return Err(format!(
+                "both {ours}, but decoded {again}, or to another picture"
+            ));
+        }
+        Ok(())
     }
 
     /// An accepted answer's `used`: that part of the message ends with the marker and is accepted with the same bytes written, and one byte
@@ -177,13 +240,13 @@ impl Check {
             }
         };
         let pixels = self.written(size as usize).to_vec();
-        let again = self.both(part, wanted, room).1?;
+        let again = self.both_decode(part, wanted, room).1?;
         if again != ours || self.written(size as usize) != pixels {
             return Err(format!(
                 "port {ours}, but for the used part alone {again}, or other pixels"
             ));
         }
-        let less = self.both(&part[..part.len() - 1], wanted, room).1?;
+        let less = self.both_decode(&part[..part.len() - 1], wanted, room).1?;
         if less.number != 1 {
             return Err(format!(
                 "port {ours}, but {less} for one byte less than the used part"
@@ -192,7 +255,7 @@ impl Check {
         Ok(())
     }
 
-    /// What the port's last decode wrote.
+    /// What the port's last call wrote.
     fn written(&self, size: usize) -> &[u8] {
         &self.ours[MARGIN + self.turn % 8..][..size]
     }

@@ -4,6 +4,7 @@ use crate::cases::{Cases, KINDS};
 use crate::check::{Check, Tally};
 use crate::histories::check_history;
 use crate::images::{self, Image};
+use crate::pictures::Picture;
 use crate::random::Random;
 use crate::sha256::sha256;
 use crate::{messages, oracle, port};
@@ -98,6 +99,32 @@ fn damaged_images(check: &mut Check, random: &mut Random, images: &[Image], case
     }
 }
 
+/// The images' own pixels, those of three channels with four as well.
+fn encoded_images(check: &mut Check, images: &[Image]) {
+    for (_, picture) in images.iter().flat_map(Image::pictures) {
+        let room = picture.room();
+        for colorspace in [0, 1] {
+            check.encode(&picture.pixels, picture.size(), colorspace, room);
+        }
+        check.encode(&picture.pixels, picture.size(), 0, room - 1);
+        check.encode(&picture.pixels, picture.size(), 0, room + 1000);
+    }
+}
+
+/// Parts of the images.
+fn encoded_parts(check: &mut Check, random: &mut Random, images: &[Image], cases: u64) {
+    let pictures: Vec<Picture> = images
+        .iter()
+        .flat_map(Image::pictures)
+        .map(|(_, picture)| picture)
+        .collect();
+    while check.tally().cases() < cases {
+        let part = random.pick(&pictures).part(random, 40);
+        let colorspace = random.below(2) as u64;
+        check.encode(&part.pixels, part.size(), colorspace, part.room());
+    }
+}
+
 fn image_histories(check: &mut Check, random: &mut Random, images: &[Image], times: u64) {
     for image in images {
         for wanted in [3, 4].iter().cycle().take(2 * times as usize) {
@@ -138,28 +165,48 @@ pub fn run(cases: u64, seed: u64, folder: &Path) -> ExitCode {
     if images.is_empty() {
         println!("no images at hand: nothing was compared on them");
     } else {
-        let kind = "published images";
-        check.begin(kind);
-        whole_images(&mut check, &images);
-        print(kind, &check.tally(), "every one");
-        total.add(&check.tally());
-        let kind = "published images, cut or damaged";
-        check.begin(kind);
-        let count = (cases / IMAGES).max(FEWEST);
-        damaged_images(&mut check, &mut random(kind), &images, count);
-        print(kind, &check.tally(), "");
-        total.add(&check.tally());
-        let kind = "published images, histories";
-        check.begin(kind);
+        let few = (cases / IMAGES).max(FEWEST);
         let times = 1 + cases / HISTORIES;
-        image_histories(&mut check, &mut random(kind), &images, times);
-        print(kind, &check.tally(), "");
-        total.add(&check.tally());
+        type Run<'a> = &'a dyn Fn(&mut Check, &mut Random);
+        let kinds: [(&str, Run, &str); 5] = [
+            (
+                "published images",
+                &|check, _| whole_images(check, &images),
+                "every one",
+            ),
+            (
+                "published images, cut or damaged",
+                &|check, random| damaged_images(check, random, &images, few),
+                "",
+            ),
+            (
+                "published images, histories",
+                &|check, random| image_histories(check, random, &images, times),
+                "",
+            ),
+            (
+                "published images, encoded",
+                &|check, _| encoded_images(check, &images),
+                "every one",
+            ),
+            (
+                "published images, parts encoded",
+                &|check, random| encoded_parts(check, random, &images, few),
+                "",
+            ),
+        ];
+        for (kind, run, note) in kinds {
+            check.begin(kind);
+            run(&mut check, &mut random(kind));
+            print(kind, &check.tally(), note);
+            total.add(&check.tally());
+        }
     }
     print("all", &total, "");
     for difference in check.found() {
         println!("{}", difference.text);
     }
+    println!("of these {} encode cases", total.encodes);
     println!("{} cases, {} differences", total.cases(), total.differences);
     ExitCode::from(u8::from(total.differences > 0))
 }

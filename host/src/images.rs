@@ -1,4 +1,6 @@
 // The published images of a folder: its .qoi files, and expected.tsv, which says what three other programs decode them to.
+use crate::oracle;
+use crate::pictures::Picture;
 use std::path::Path;
 
 pub struct Image {
@@ -6,6 +8,32 @@ pub struct Image {
     pub message: Vec<u8>,
     /// Width, height, channels and colour space, and the SHA-256 of the pixels, for each program that decoded it.
     pub expected: Vec<([u64; 4], String)>,
+}
+
+impl Image {
+    /// As the Rust decodes it.
+    fn picture(&self, channels: u64) -> Picture {
+        let [width, height, ..] = oracle::header(&self.message).figures;
+        let mut pixels = vec![0; (width * height * channels) as usize];
+        let answer = oracle::decode(&self.message, channels, &mut pixels);
+        assert!(answer.is_accepted(), "{}: {answer}", self.name);
+        Picture {
+            width: width as u32,
+            height: height as u32,
+            channels: channels as usize,
+            pixels,
+        }
+    }
+
+    /// The picture with its own channels; one of three channels, which is a photograph, also with four.
+    pub fn pictures(&self) -> Vec<(String, Picture)> {
+        let [_, _, channels, _] = oracle::header(&self.message).figures;
+        let mut pictures = vec![(self.name.clone(), self.picture(channels))];
+        if channels == 3 {
+            pictures.push((format!("{}, 4", self.name), self.picture(4)));
+        }
+        pictures
+    }
 }
 
 /// One line of expected.tsv: file, width, height, channels, colour space, program, SHA-256.

@@ -1,17 +1,22 @@
-// The host of the port's exported functions: `host compare` holds them to crate qoi 0.4.1 on the same inputs, `host bench` times them against it.
+// The host of the port's exported functions: `host compare` holds them to crate qoi 0.4.1 on the same inputs, `host peers` to other programs by
+// the files that they write and read, and `host bench` times them against crate qoi.
 mod answer;
 mod bench;
 mod budgets;
 mod cases;
 mod check;
 mod compare;
+mod encodes;
 mod histories;
 mod images;
 mod messages;
 mod oracle;
 mod output;
+mod peers;
 mod pictures;
 mod port;
+#[cfg(feature = "qoi_h")]
+mod qoi_h;
 mod random;
 mod record;
 mod records;
@@ -23,7 +28,9 @@ use std::path::PathBuf;
 use std::process::ExitCode;
 
 fn usage() -> ExitCode {
-    eprintln!("usage: host compare CASES SEED IMAGES | host bench IMAGES");
+    eprintln!(
+        "usage: host compare CASES SEED IMAGES | host peers FOLDER IMAGES | host bench IMAGES [encode]"
+    );
     ExitCode::from(2)
 }
 
@@ -35,7 +42,9 @@ fn main() -> ExitCode {
             (Ok(cases), Ok(seed)) => compare::run(cases, seed, &PathBuf::from(folder)),
             _ => usage(),
         },
-        ["bench", folder] => bench::run(&PathBuf::from(folder)),
+        ["peers", folder, images] => peers::run(&PathBuf::from(folder), &PathBuf::from(images)),
+        ["bench", folder] => bench::run(&PathBuf::from(folder), false),
+        ["bench", folder, "encode"] => bench::run(&PathBuf::from(folder), true),
         _ => usage(),
     }
 }

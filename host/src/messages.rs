@@ -12,7 +12,7 @@ pub fn header(width: u32, height: u32, channels: u8, colorspace: u8) -> Vec<u8> 
 }
 
 /// About 400,000,000 pixels, none, any number, or a small picture.
-fn dimensions(random: &mut Random) -> (u32, u32) {
+pub fn dimensions(random: &mut Random) -> (u32, u32) {
     let any = random.next() as u32;
     let (one, other) = match random.below(4) {
         0 => {

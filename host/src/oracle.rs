@@ -45,8 +45,35 @@ pub fn needed(message: &[u8], wanted: u64) -> Option<u64> {
     Some((header.n_pixels() as u64).saturating_mul(wanted))
 }
 
+/// The Rust's own type holds no colour space other than 0 and 1, and its refusal of other bytes is what such a number is answered with: after what
+/// the Rust refuses of the pixels, before the room.
+fn encoded(
+    pixels: &[u8],
+    width: u32,
+    height: u32,
+    colorspace: u64,
+    out: &mut [u8],
+) -> qoi::Result<usize> {
+    let encoder = Encoder::new(pixels, width, height)?;
+    let colorspace = ColorSpace::try_from(colorspace.min(255) as u8)?;
+    encoder.with_colorspace(colorspace).encode_to_buf(out)
+}
+
+/// Bytes written.
+pub fn encode(pixels: &[u8], width: u32, height: u32, colorspace: u64, out: &mut [u8]) -> Answer {
+    match encoded(pixels, width, height, colorspace, out) {
+        Ok(size) => Answer::accepted([size as u64, 0, 0, 0]),
+        Err(e) => refused(&e),
+    }
+}
+
+/// The room that the Rust asks for to encode a picture.
+pub fn room_to_encode(width: u32, height: u32, channels: usize) -> usize {
+    qoi::encode_max_len(width, height, channels as u8)
+}
+
 /// A good message: pixels of three or four channels, encoded by the Rust.
-pub fn encode(pixels: &[u8], width: u32, height: u32, colorspace: u8) -> Vec<u8> {
+pub fn message(pixels: &[u8], width: u32, height: u32, colorspace: u8) -> Vec<u8> {
     let colorspace = ColorSpace::try_from(colorspace).expect("a colour space");
     let encoder = Encoder::new(&pixels, width, height).expect("a picture");
     encoder

@@ -6,6 +6,7 @@ use crate::random::Random;
 pub struct Picture {
     pub width: u32,
     pub height: u32,
+    pub channels: usize,
     pub pixels: Vec<u8>,
 }
 
@@ -26,12 +27,45 @@ impl Picture {
         Self {
             width: width as u32,
             height: height as u32,
+            channels,
             pixels,
         }
     }
 
+    pub fn row(channels: usize, colours: &[[u8; 4]]) -> Self {
+        Self::of(colours.len(), 1, channels, |x, _| colours[x])
+    }
+
+    /// A part, at most so wide and so high.
+    pub fn part(&self, random: &mut Random, most: usize) -> Self {
+        let (width, height) = (self.width as usize, self.height as usize);
+        let part = (
+            random.between(1, most.min(width)),
+            random.between(1, most.min(height)),
+        );
+        let (left, top) = (
+            random.below(width - part.0 + 1),
+            random.below(height - part.1 + 1),
+        );
+        Self::of(part.0, part.1, self.channels, |x, y| {
+            let place = ((top + y) * width + left + x) * self.channels;
+            let mut colour = [255; 4];
+            colour[..self.channels].copy_from_slice(&self.pixels[place..][..self.channels]);
+            colour
+        })
+    }
+
+    pub fn size(&self) -> (u32, u32) {
+        (self.width, self.height)
+    }
+
+    /// The room that an encode asks for.
+    pub fn room(&self) -> usize {
+        oracle::room_to_encode(self.width, self.height, self.channels)
+    }
+
     pub fn encoded(&self, colorspace: u8) -> Vec<u8> {
-        oracle::encode(&self.pixels, self.width, self.height, colorspace)
+        oracle::message(&self.pixels, self.width, self.height, colorspace)
     }
 }
 
@@ -102,10 +136,15 @@ pub fn textured(random: &mut Random, most: usize) -> Picture {
 const WIDTH: usize = 1024;
 const HEIGHT: usize = 512;
 
-/// An hour's rain: showers with dry land between them, a number to a pixel, its high bytes first.
-pub fn rain(channels: usize) -> Picture {
-    let mut random = Random::new(1);
-    Picture::of(WIDTH, HEIGHT, channels, |x, y| {
+/// An hour's rain, or a part of it: showers with dry land between them, a number to a pixel, its high bytes first.
+fn showers(
+    random: &mut Random,
+    (left, top): (usize, usize),
+    (width, height): (usize, usize),
+    channels: usize,
+) -> Picture {
+    Picture::of(width, height, channels, |x, y| {
+        let (x, y) = (left + x, top + y);
         let shower = ((x as f64 / 37.0).sin() * (y as f64 / 23.0).cos() * 2000.0).max(0.0) as u32;
         let gust = if x * y % 7 == 0 {
             random.below(40) as u32
@@ -116,8 +155,21 @@ pub fn rain(channels: usize) -> Picture {
     })
 }
 
+fn rain(channels: usize) -> Picture {
+    showers(&mut Random::new(1), (0, 0), (WIDTH, HEIGHT), channels)
+}
+
+/// A part of a rain field with at most `most` pixels.
+pub fn part_of_rain(random: &mut Random, most: usize) -> Picture {
+    let place = (random.below(WIDTH), random.below(HEIGHT));
+    let width = random.between(1, most);
+    let height = random.between(1, most / width);
+    let channels = random.between(3, 4);
+    showers(random, place, (width, height), channels)
+}
+
 /// A page of text with soft edges: dark on white with three channels, on nothing with four.
-pub fn page(channels: usize) -> Picture {
+fn page(channels: usize) -> Picture {
     let mut random = Random::new(2);
     let glyphs: Vec<u64> = (0..40).map(|_| random.next() & random.next()).collect();
     let columns = WIDTH / 8;
@@ -147,13 +199,31 @@ pub fn page(channels: usize) -> Picture {
     })
 }
 
-pub fn flat(channels: usize) -> Picture {
+fn flat(channels: usize) -> Picture {
     Picture::of(WIDTH, HEIGHT, channels, |_, _| [10, 200, 30, 255])
 }
 
-pub fn noise(channels: usize) -> Picture {
+fn noise(channels: usize) -> Picture {
     let mut random = Random::new(3);
     Picture::of(WIDTH, HEIGHT, channels, |_, _| {
         (random.next() as u32).to_le_bytes()
     })
+}
+
+/// The large ones, each with three channels and with four, and their names.
+pub fn large() -> Vec<(String, Picture)> {
+    type Make = fn(usize) -> Picture;
+    let made: [(&str, Make); 4] = [
+        ("page of text", page),
+        ("rain field", rain),
+        ("flat", flat),
+        ("noise", noise),
+    ];
+    let mut pictures = Vec::new();
+    for (name, make) in made {
+        for channels in [3, 4] {
+            pictures.push((format!("{name}, {channels}"), make(channels)));
+        }
+    }
+    pictures
 }

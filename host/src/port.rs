@@ -11,6 +11,16 @@ extern "C" {
         out_length: usize,
         figures: *mut [u64; 4],
     ) -> u64;
+    fn pivotshade_encode(
+        pixels: *const u8,
+        length: usize,
+        width: u32,
+        height: u32,
+        colorspace: u64,
+        out: *mut u8,
+        out_length: usize,
+        figures: *mut [u64; 4],
+    ) -> u64;
     fn pivotshade_start(
         message: *const u8,
         length: usize,
@@ -56,6 +66,25 @@ pub fn decode(message: &[u8], wanted: u64, out: &mut [u8]) -> Answer {
             message.as_ptr(),
             message.len(),
             wanted,
+            out.as_mut_ptr(),
+            out.len(),
+            &mut figures,
+        )
+    };
+    Answer { number, figures }
+}
+
+/// Bytes written.
+pub fn encode(pixels: &[u8], width: u32, height: u32, colorspace: u64, out: &mut [u8]) -> Answer {
+    let mut figures = UNWRITTEN;
+    // the port reads pixels[..] alone and writes out[..] and the four figures alone
+    let number = unsafe {
+        pivotshade_encode(
+            pixels.as_ptr(),
+            pixels.len(),
+            width,
+            height,
+            colorspace,
             out.as_mut_ptr(),
             out.len(),
             &mut figures,

@@ -1,14 +1,12 @@
 // The cases of decodes, groups j to l: accepted, refused, and the corners that no encoder makes.
 // The input of a case: a byte, the channels wanted; a byte, how many bytes the lent output is short of the needed; two, the message's length,
 // big-endian; the message; and the output's bytes as the Rust left them, which were all 0xa5 before. Accepted figures: bytes written, message bytes used.
-use crate::list::{answer, List};
+use crate::list::{answer, List, FILL};
+use crate::pictures::{pixels, Numbers, Texture, COLOURS, TEXTURES};
 use qoi::{Channels, ColorSpace, Decoder, Encoder};
 
 /// The most that a message has, and an output.
 const MOST: usize = 2048;
-
-/// What an output holds before a decode.
-const FILL: u8 = 0xa5;
 
 const MARKER: [u8; 8] = [0, 0, 0, 0, 0, 0, 0, 1];
 
@@ -78,85 +76,9 @@ fn row(width: u32, channels: u8, chunks: &[u8]) -> Vec<u8> {
     [&header((width, 1), channels), chunks, &MARKER].concat()
 }
 
-/// Numbers that are the same in each run.
-struct Numbers(u64);
-
-impl Numbers {
-    fn below(&mut self, bound: u64) -> u64 {
-        self.0 ^= self.0 << 13;
-        self.0 ^= self.0 >> 7;
-        self.0 ^= self.0 << 17;
-        (self.0 >> 20) % bound
-    }
-
-    fn byte(&mut self) -> u8 {
-        self.below(256) as u8
-    }
-}
-
-/// What the pixels of a picture look like.
-#[derive(Clone, Copy)]
-enum Texture {
-    Black,
-    Runs,
-    Slow,
-    Steep,
-    Noise,
-    FewColours,
-    Doubled,
-    Alpha,
-    Faded,
-}
-
-const TEXTURES: [Texture; 9] = [
-    Texture::Black,
-    Texture::Runs,
-    Texture::Slow,
-    Texture::Steep,
-    Texture::Noise,
-    Texture::FewColours,
-    Texture::Doubled,
-    Texture::Alpha,
-    Texture::Faded,
-];
-
-const COLOURS: [[u8; 4]; 5] = [
-    [0, 0, 0, 255],
-    [100, 0, 0, 255],
-    [0, 0, 0, 0],
-    [10, 200, 30, 128],
-    [255, 255, 255, 255],
-];
-
-/// The colour at place i of a picture.
-fn colour(texture: Texture, i: u8, numbers: &mut Numbers) -> [u8; 4] {
-    let noise = [0; 4].map(|_| numbers.byte());
-    match texture {
-        Texture::Black => [0, 0, 0, 255],
-        Texture::Runs => COLOURS[usize::from(i / 9) % 5],
-        Texture::Slow => [i, i.wrapping_mul(255), i / 2, 255],
-        Texture::Steep => [
-            i.wrapping_mul(9),
-            i.wrapping_mul(13),
-            i.wrapping_mul(16),
-            255,
-        ],
-        Texture::Noise => noise,
-        Texture::FewColours => COLOURS[usize::from(noise[0]) % 5],
-        Texture::Doubled => COLOURS[usize::from(i / 2 * 3) % 5],
-        Texture::Alpha => [20, 40, 60, noise[0] / 64 * 80],
-        Texture::Faded => [noise[0] % 4, noise[1] % 4, i, 255 - i / 4 * 4],
-    }
-}
-
 /// The message that the Rust's encoder makes of a picture.
 fn encoded(texture: Texture, size: (u32, u32), channels: u8) -> Vec<u8> {
-    let mut numbers = Numbers(0x9e37_79b9_7f4a_7c15 ^ u64::from(size.0 * 1_000 + size.1));
-    let mut pixels = Vec::new();
-    for i in 0..size.0 * size.1 {
-        let colour = colour(texture, i as u8, &mut numbers);
-        pixels.extend(&colour[..usize::from(channels)]);
-    }
+    let pixels = pixels(texture, size, channels);
     let encoder = Encoder::new(&pixels, size.0, size.1).unwrap();
     let space = if size.0 % 2 == 0 {
         ColorSpace::Linear

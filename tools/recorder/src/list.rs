@@ -5,6 +5,9 @@ use std::collections::{BTreeMap, HashSet};
 /// No case crosses a multiple of this many bytes.
 const PAGE: usize = 65_536;
 
+/// What a lent output holds before a call.
+pub const FILL: u8 = 0xa5;
+
 /// 0 and the accepted answer's figures, or the refusal's number and figures, zeros after them.
 pub struct Answer {
     pub number: u64,

@@ -2,8 +2,10 @@
 // A case is a line: the group's letter; two hex digits, 0 or the number of the refusal; four times sixteen, the figures; the input's bytes.
 // Empty lines fill the pages, so that no case crosses a multiple of 65,536 bytes.
 mod decode;
+mod encode;
 mod header;
 mod list;
+mod pictures;
 mod refusal;
 
 use std::io::Write;
@@ -12,6 +14,7 @@ fn main() {
     let mut list = list::List::default();
     header::record(&mut list);
     decode::record(&mut list);
+    encode::record(&mut list);
     for (group, count) in list.counts() {
         eprintln!("group {group}: {count} cases");
     }
