@@ -17,10 +17,12 @@ use Rattle.chunk.proofs as chunk
 use Rattle.walk.proofs as walk
 use Rattle.resume.proofs.Decoder as Decoder
 use Rattle.decode.proofs as decode
+use Rattle.encode.proofs as encode
+use Rattle.encode.proofs.Encoder as Encoder
 use Rattle.qoi.proofs as qoi
 use Rattle.resume.specs.State.{state-determined}
 use Rattle.promises.specs.Determined.{Determined, DeterminedBy}
-use Rattle.promises.proofs.OneToOne.{unpacked-determined, found-determined, walk-determined, started-determined, ran-determined, answer-determined, returned-same, figures-same}
+use Rattle.promises.proofs.OneToOne.{unpacked-determined, found-determined, walk-determined, started-determined, ran-determined, answer-determined, encoded-determined, returned-same, figures-same}
 
 -- ---- crate `pixel`
 pub pixel·Pixel·new : Determined Pixel.new.Kinds.ps Pixel.new.Kinds.r Pixel.new.Reads.Post
@@ -256,6 +258,37 @@ pub decode·rest :
 decode·rest κs a z z′ e e′ ok ok′ p q =
     ((p .0 ∙ sym (q .0), p .1 ∙ sym (q .1)), refl)
 
+-- ---- crate `encode`
+pub encode·Encoder·new : Determined Encoder.new.Kinds.ps Encoder.new.Kinds.r Encoder.new.Reads.Post
+encode·Encoder·new κs a z z′ e e′ ok ok′ p q = (p ∙ sym q, refl)
+
+pub encode·Encoder·with-colorspace : Determined Encoder.with_colorspace.Kinds.ps Encoder.with_colorspace.Kinds.r Encoder.with_colorspace.Reads.Post
+encode·Encoder·with-colorspace κs a z z′ e e′ ok ok′ p q = (p ∙ sym q, refl)
+
+pub encode·Encoder·channels : Determined Encoder.channels.Kinds.ps Encoder.channels.Kinds.r Encoder.channels.Reads.Post
+encode·Encoder·channels κs a z z′ e e′ ok ok′ p q = (p ∙ sym q, refl)
+
+pub encode·Encoder·header : Determined Encoder.header.Kinds.ps Encoder.header.Kinds.r Encoder.header.Reads.Post
+encode·Encoder·header κs a z z′ e e′ ok ok′ p q = (p ∙ sym q, refl)
+
+pub encode·Encoder·required-buf-len : Determined Encoder.required_buf_len.Kinds.ps Encoder.required_buf_len.Kinds.r Encoder.required_buf_len.Reads.Post
+encode·Encoder·required-buf-len κs a z z′ e e′ ok ok′ p q = (p ∙ sym q, refl)
+
+pub encode·Encoder·encode-to-buf : Determined Encoder.encode_to_buf.Kinds.ps Encoder.encode_to_buf.Kinds.r Encoder.encode_to_buf.Reads.Post
+encode·Encoder·encode-to-buf κs a z z′ e e′ ok ok′ p q =
+    let out = p .1 ∙ sym (q .1) in
+    (encoded-determined z z′ (p .0 ∙ sym (q .0)), λ i. (tt, (tt, (out i, tt))))
+
+pub encode·encode : Determined encode.encode.Kinds.ps encode.encode.Kinds.r encode.encode.Reads.Post
+encode·encode κs a z z′ e e′ ok ok′ p q =
+    let out = p .1 ∙ sym (q .1) in
+    (encoded-determined z z′ (p .0 ∙ sym (q .0)), λ i. (tt, (tt, (tt, (tt, (out i, tt))))))
+
+pub encode·encode-to-buf : Determined encode.encode_to_buf.Kinds.ps encode.encode_to_buf.Kinds.r encode.encode_to_buf.Reads.Post
+encode·encode-to-buf κs a z z′ e e′ ok ok′ p q =
+    let out = p .1 ∙ sym (q .1) in
+    (encoded-determined z z′ (p .0 ∙ sym (q .0)), λ i. (out i, (tt, (tt, (tt, tt)))))
+
 -- ---- crate `qoi`, for hosts
 pub qoi·pivotshade-header : Determined qoi.pivotshade_header.Kinds.ps qoi.pivotshade_header.Kinds.r qoi.pivotshade_header.Reads.Post
 qoi·pivotshade-header κs a z z′ e e′ ok ok′ p q =
@@ -267,6 +300,12 @@ qoi·pivotshade-decode κs a z z′ e e′ ok ok′ p q =
     let same = p .0 ∙ sym (q .0) in
     let out = p .1 ∙ sym (q .1) in
     (returned-same same, λ i. (tt, (tt, (out i, (figures-same same i, tt)))))
+
+pub qoi·pivotshade-encode : Determined qoi.pivotshade_encode.Kinds.ps qoi.pivotshade_encode.Kinds.r qoi.pivotshade_encode.Reads.Post
+qoi·pivotshade-encode κs a z z′ e e′ ok ok′ p q =
+    let same = p .0 ∙ sym (q .0) in
+    let out = p .1 ∙ sym (q .1) in
+    (returned-same same, λ i. (tt, (tt, (tt, (tt, (out i, (figures-same same i, tt)))))))
 
 pub qoi·pivotshade-start : Determined qoi.pivotshade_start.Kinds.ps qoi.pivotshade_start.Kinds.r qoi.pivotshade_start.Reads.Post
 qoi·pivotshade-start κs a z z′ e e′ ok ok′ p q =

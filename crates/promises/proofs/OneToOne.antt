@@ -31,6 +31,9 @@ use Rattle.resume.specs.State.{stateOf, state-determined}
 use Rattle.decode.specs.declared.Decoded.{Decoded}
 use Rattle.decode.specs.declared.Decoded.the-variants as decoded
 use Rattle.decode.specs.Decoded.{answerOf}
+use Rattle.encode.specs.declared.Encoded.{Encoded}
+use Rattle.encode.specs.declared.Encoded.the-variants as encoded
+use Rattle.encode.specs.Encoded.{answerOf as encodedOf}
 
 -- a 32-bit number is its four bytes
 packed-again : (p : ℕ) → p < 2 ^ 32 → packedOf (red (unpacked p)) (green (unpacked p)) (blue (unpacked p)) (alpha (unpacked p)) ≡ p
@@ -135,6 +138,13 @@ decoded-again (decoded.Refused e) = refl
 
 pub answer-determined : (a b : Decoded) → answerOf a ≡ answerOf b → a ≡ b
 answer-determined a b same = sym (decoded-again a) ∙ ap decodedAs same ∙ decoded-again b
+
+-- the encode's answer
+pub encoded-determined : (a b : Encoded) → encodedOf a ≡ encodedOf b → a ≡ b
+encoded-determined (encoded.Done n) (encoded.Done k) same = cc
+encoded-determined (encoded.Done n) (encoded.Refused e) same = let z : _≡_ {A = ℕ} 0 1 = cc in absurd (omega arith)
+encoded-determined (encoded.Refused e) (encoded.Done n) same = let z : _≡_ {A = ℕ} 0 1 = cc in absurd (omega arith)
+encoded-determined (encoded.Refused e) (encoded.Refused x) same = cc
 
 -- the number that is returned and the figures beside it
 pub returned-same : {n k : ℕ} {f g : List ℕ} → n ∷ f ≡ k ∷ g → n ≡ k

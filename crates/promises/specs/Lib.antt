@@ -1,4 +1,5 @@
 -- What the contracts of the public functions promise together: the statements.
 pub mod Determined
 pub mod Hosts
+pub mod Pictures
 pub mod Stores

@@ -2,15 +2,15 @@
 -- come, is all that is to be written.
 -- Assumes nothing.
 use mathlib.Core.Path.{refl, _∙_}
-use mathlib.Core.List.{List, []}
-use Prim.Native.Nat.{ℕ, _+_, _-_, _<_}
+use mathlib.Core.List.{[]}
+use Prim.Native.Nat.{_+_, _-_, _<_}
 use native.Mathlib.Omega.{arith}
 use borrow.Author.Needs.{needs}
 use lib.ListN.{length}
 use Rattle.rules.specs.Bytes.{pasted}
 use Rattle.rules.proofs.ChunkLaws.{slot-small}
 use Rattle.encode.specs.Asked.{pictureBytes, endedBytes}
-use Rattle.encode.proofs.Loop.{Head, reworded, first-fits, advance, ended-at, start-head, pixel-within, full-fits, after-full, after-longer, run-fits, index-fits, after-index, colour-fits, after-colour, last-run, alpha-kept}
+use Rattle.encode.proofs.Loop.{Head, first-fits, advance, ended-at, start-head, pixel-within, full-fits, after-full, after-longer, run-fits, index-fits, after-index, colour-fits, after-colour, last-run, alpha-kept}
 use Rattle.encode.proofs.chunks.write_three.Statement.{statement}
 use Rattle.encode.proofs.chunks.write_three.Tie as tie
 
