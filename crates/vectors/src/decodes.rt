@@ -2,6 +2,7 @@
 // output is short of the needed;
 // two, the message's length, big-endian; the message; and the output's bytes as the Rust left them, which were all
 // 0xa5 before.
+use crate::big_endian;
 use crate::groups::Answer;
 use decode::Decoded;
 use header::Header;
@@ -72,16 +73,12 @@ fn lent(message: &[u8], wanted: u8, short: u8, room: &mut [u8], left: &[u8]) -> 
     decoded(message, wanted, &mut room[0..n], left)
 }
 
-fn big_endian(high: u8, low: u8) -> usize {
-    (high as usize) * 256 + low as usize
-}
-
 // The port's answer to a case.
 pub fn asked(input: &[u8]) -> Answer {
     if input.len() < 4 {
         return Answer::none();
     }
-    let length = big_endian(input[2], input[3]);
+    let length = big_endian::two(input[2], input[3]);
     if input.len() - 4 < length {
         return Answer::none();
     }

@@ -1,5 +1,7 @@
 // What each group of cases asks of the port.
+use crate::big_endian;
 use crate::decodes;
+use crate::encodes;
 use header::Header;
 use header::HeaderRead;
 use pixel::error::Error;
@@ -37,6 +39,15 @@ impl Answer {
         }
     }
 
+    // This answer, if another is the same.
+    pub fn if_same(self, other: Answer) -> Self {
+        if self.same(other) {
+            self
+        } else {
+            Answer::none()
+        }
+    }
+
     // An answer that no case has: two digits do not hold its number.
     pub fn none() -> Self {
         Answer {
@@ -56,6 +67,7 @@ pub fn asked(group: u8, input: &[u8]) -> Answer {
         b'h' => channels(input),
         b'i' => color_space(input),
         b'j'..=b'l' => decodes::asked(input),
+        b'm'..=b'o' => encodes::asked(input),
         _ => Answer::none(),
     }
 }
@@ -80,15 +92,7 @@ fn of_header(read: HeaderRead) -> Answer {
 fn header_read(message: &[u8]) -> Answer {
     let method = of_header(Header::decode(message));
     let function = of_header(header::decode_header(message));
-    if method.same(function) {
-        method
-    } else {
-        Answer::none()
-    }
-}
-
-fn big_endian(a: u8, b: u8, c: u8, d: u8) -> u32 {
-    (a as u32) * 0x100_0000 + (b as u32) * 0x1_0000 + (c as u32) * 256 + d as u32
+    method.if_same(function)
 }
 
 fn wide(byte: u8) -> u64 {
@@ -116,8 +120,8 @@ fn header_named(input: &[u8]) -> HeaderRead {
         return HeaderRead::Refused(Error::BadState);
     }
     header_of(
-        big_endian(input[0], input[1], input[2], input[3]),
-        big_endian(input[4], input[5], input[6], input[7]),
+        big_endian::four(input[0], input[1], input[2], input[3]),
+        big_endian::four(input[4], input[5], input[6], input[7]),
         Channels::try_from(wide(input[8])),
         ColorSpace::try_from(wide(input[9])),
     )
@@ -145,8 +149,8 @@ fn room(input: &[u8]) -> Answer {
     if input.len() != 9 {
         return Answer::none();
     }
-    let width = big_endian(input[0], input[1], input[2], input[3]);
-    let height = big_endian(input[4], input[5], input[6], input[7]);
+    let width = big_endian::four(input[0], input[1], input[2], input[3]);
+    let height = big_endian::four(input[4], input[5], input[6], input[7]);
     Answer::accepted(
         header::encode_max_len(width, height, input[8]) as u64,
         0,

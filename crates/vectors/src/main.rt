@@ -6,8 +6,10 @@
 use libc::STDIN_FILENO;
 use tally::Tally;
 
+mod big_endian;
 mod case;
 mod decodes;
+mod encodes;
 mod groups;
 mod hex;
 mod tally;

@@ -2,20 +2,20 @@
 ghost use Prim.Native.Nat.{_<_};
 use libc::STDOUT_FILENO;
 
-// A place for each of the letters from a to l, and the last for any other.
+// A place for each of the letters from a to o, and the last for any other.
 pub struct Tally {
-    cases: [u64; 13],
-    agreed: [u64; 13],
+    cases: [u64; 16],
+    agreed: [u64; 16],
 }
 
 fn place(letter: u8) -> usize
-    ensures { λ r. ⌜ r < 13 ⌝ }
+    ensures { λ r. ⌜ r < 16 ⌝ }
 {
     if letter < b'a' {
-        return 12;
+        return 15;
     }
-    if b'l' < letter {
-        return 12;
+    if b'o' < letter {
+        return 15;
     }
     (letter - 97) as usize
 }
@@ -36,8 +36,8 @@ fn print(name: &[u8], agreed: u64, cases: u64) {
 impl Tally {
     pub fn new() -> Self {
         Tally {
-            cases: [0; 13],
-            agreed: [0; 13],
+            cases: [0; 16],
+            agreed: [0; 16],
         }
     }
 
@@ -64,8 +64,11 @@ impl Tally {
         print(b"decode accepted", self.agreed[9], self.cases[9]);
         print(b"decode refused", self.agreed[10], self.cases[10]);
         print(b"decode corners", self.agreed[11], self.cases[11]);
-        if 0 < self.cases[12] {
-            print(b"of no group", self.agreed[12], self.cases[12]);
+        print(b"encode accepted", self.agreed[12], self.cases[12]);
+        print(b"encode refused", self.agreed[13], self.cases[13]);
+        print(b"encode corners", self.agreed[14], self.cases[14]);
+        if 0 < self.cases[15] {
+            print(b"of no group", self.agreed[15], self.cases[15]);
         }
     }
 }
