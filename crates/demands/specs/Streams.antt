@@ -6,10 +6,10 @@ use lib.Dec.{T}
 use lib.ListN.{length}
 use Rattle.pixel.specs.declared.types.ChannelsRead.the-variants as channels-read
 use Rattle.pixel.specs.declared.types.ColorSpaceRead.the-variants as colorspace-read
-use Rattle.pixel.specs.Types.{channelsNumber, channelsFrom, colorSpaceFrom}
+use Rattle.pixel.specs.Types.{channelsNumber, channelsFrom, colorSpaceNumber, colorSpaceFrom}
 use Rattle.header.specs.declared.Header.{Header}
 use Rattle.header.specs.Header.{encodedRoom}
-use Rattle.rules.specs.Encode.{PictureOf, chunksOf, streamOf}
+use Rattle.rules.specs.Encode.{PictureOf, chunksOf, streamOf, encoded, encoding}
 use Rattle.rules.specs.Strict.{accepted, strict}
 use Rattle.rules.specs.Document.{indexesFilled}
 
@@ -22,6 +22,13 @@ StrictAccepts header picture =
 -- no INDEX of it names a slot not yet filled, slot 0 of a 4-channel source excepted
 abbrev pub KeepsFilled : Header → List ℕ → Type 0
 KeepsFilled header picture = T (indexesFilled (streamOf header picture))
+
+-- an encode must accept a picture of a header into the room that it asks for, and write its stream
+abbrev pub MustEncode : Header → List ℕ → Type 0
+MustEncode header picture =
+    (room : ℕ) → encodedRoom (header .width) (header .height) (channelsNumber (header .channels)) ≤ room
+    → encoding picture (header .width) (header .height) (colorSpaceNumber (header .colorspace)) room
+    ≡ record { answer = encoded (length (streamOf header picture)); bytes = streamOf header picture }
 
 -- what an encode that is accepted wrote: the stream of its picture under the header of its dimensions, its channels
 -- and its colour space, and how many bytes that is

@@ -1,82 +1,51 @@
--- The chunk of differences as the writer chooses it: its tests are those of the rules, and its bytes the chunk's.
+-- The chunk of differences as the writer chooses it: its tests are the rules' ranges, what fits a range is small enough
+-- for the chunk's bytes, and those bytes are the chunk's.
 -- Assumes nothing.
-use mathlib.Core.Path.{_≡_, refl, sym}
+use mathlib.Core.Path.{_≡_, refl, sym, _∙_}
 use mathlib.Core.Bool.{Bool, true, false, cond, _&&_}
 use mathlib.Core.List.{[], _∷_}
-use Prim.Native.Nat.{ℕ, zero, suc, _+_, _-_, _*_, _/_, _%_, _≤_, _<_}
-use native.Mathlib.Nat.{zero-add, add-assoc, div-eq-of-lt, div-lt-iff-lt-mul}
+use Prim.Native.Nat.{ℕ, suc, _+_, _-_, _*_, _/_, _%_, _≤_, _<_}
 use native.Mathlib.Omega.{arith}
-use borrow.Author.Tests.{ltb-true, ltb-false, leb-true, eqb-true, lt-ltb, le-leb, eq-eqb, ne-eqb}
-use lib.Dec.{ltb, leb, eqb}
-use lib.IntN.{pos, negsuc}
+use borrow.Author.Tests.{ltb-true, ltb-false, leb-true}
+use lib.Dec.{ltb, leb·suc-suc}
+use lib.IntN.{ℤ, pos, negsuc}
+use lib.Signed.{leZ}
 use Rattle.pixel.specs.Colour.{wrappedSum, wrappedDifference, signedOf, within}
 use Rattle.pixel.specs.Packed.{packedOf, unpacked}
 use Rattle.pixel.proofs.PackedLaws.{unpacked-packed, below-alpha}
 use Rattle.rules.specs.Encode.{fitsDiff, fitsLuma, diffChunk, lumaChunk, chunkBytes}
+use Rattle.rules.proofs.EncodeLaws.{and-split}
 use Rattle.encode.specs.Asked.{shiftedBytes}
 
--- two tests are the same if each holds where the other does
-same-test : (s t : Bool) → (s ≡ true → t ≡ true) → (t ≡ true → s ≡ true) → s ≡ t
-same-test true t there back = sym (there refl)
-same-test false true there back = back refl
-same-test false false there back = refl
+-- a number at or above a range's lower end is in the range if it is at or below the upper end
+pub above-low : (n above : ℕ) (x : ℤ) → leZ (negsuc n) x ≡ true → leZ x (pos above) ≡ within (suc n) above x
+above-low n above (pos m) low = refl
+above-low n above (negsuc k) low = sym (leb·suc-suc k n ∙ low)
 
--- two such tests of numbers
-same-bound : (a b x y : ℕ) → (a ≤ b → x < y) → (x < y → a ≤ b) → leb a b ≡ ltb x y
-same-bound a b x y there back =
-    same-test _ _ (λ e. lt-ltb x y (there (leb-true a b e))) (λ e. le-leb a b (back (ltb-true x y e)))
+-- and one below the lower end is not
+pub below-low : (n above : ℕ) (x : ℤ) → leZ (negsuc n) x ≡ false → leZ (negsuc n) x ≡ within (suc n) above x
+below-low n above (pos m) high = let z : true ≡ false = high in cc
+below-low n above (negsuc k) high = sym (leb·suc-suc k n)
 
--- a difference is in a range if it is small once the range's lower end is added
-within-is :
+-- three tests one after another: the first that fails decides
+pub first-fails : {a s : Bool} (b c : Bool) → s ≡ a → s ≡ false → false ≡ a && (b && c)
+first-fails b c first failed = rw (← first, failed)
+
+pub second-fails : {a b s t : Bool} (c : Bool) → s ≡ a → s ≡ true → t ≡ b → t ≡ false → false ≡ a && (b && c)
+second-fails c first held second failed = rw (← first, held, ← second, failed)
+
+pub third-decides : {a b c s t u : Bool} → s ≡ a → s ≡ true → t ≡ b → t ≡ true → u ≡ c → u ≡ a && (b && c)
+third-decides first held second also third = rw (← first, held, ← second, also) third
+
+-- a difference in a range is small once the number that the chunk adds to it is added
+small :
     (below above : ℕ) → below ≤ 128 → above < 128 → (x : ℕ) → x < 256
-    → within below above (signedOf x) ≡ ltb (wrappedSum x below) (below + above + 1)
-within-is below above hb ha x hx = go (ltb x 128) refl
+    → within below above (signedOf x) ≡ true → wrappedSum x below < below + above + 1
+small below above hb ha x hx = go (ltb x 128) refl
   where
-    go :
-        (t : Bool) → ltb x 128 ≡ t
-        → within below above (cond t (pos x) (negsuc (255 - x))) ≡ ltb (wrappedSum x below) (below + above + 1)
-    go true e =
-        let near = ltb-true x 128 e in
-        same-bound x above (wrappedSum x below) (below + above + 1) (λ h. omega arith) (λ h. omega arith)
-    go false e =
-        let far = ltb-false x 128 e in
-        same-bound (suc (255 - x)) below (wrappedSum x below) (below + above + 1) (λ h. omega arith) (λ h. omega arith)
-
--- a number is below another if nothing is left of it divided by that
-small-is : (x k : ℕ) → ltb x (suc k) ≡ eqb (x / suc k) 0
-small-is x k =
-    same-test _ _ (λ e. eq-eqb _ 0 (div-eq-of-lt (ltb-true x (suc k) e)))
-    (λ e.
-    let none = eqb-true (x / suc k) 0 e in
-    lt-ltb x (suc k) (omega (arith, div-lt-iff-lt-mul {k = suc k} {x = x} {y = 1} (omega arith) .0 (omega arith))))
-
--- two numbers are 0 if their sum is
-none-of : (x y : ℕ) → eqb x 0 && eqb y 0 ≡ eqb (x + y) 0
-none-of zero y = rw zero-add
-none-of (suc x) y = rw (ne-eqb (suc x) 0 (λ e. omega arith), ne-eqb (suc x + y) 0 (λ e. omega arith))
-
--- three tests as one
-small-are :
-    (x y z k l m : ℕ)
-    → ltb x (suc k) && (ltb y (suc l) && ltb z (suc m)) ≡ eqb (x / suc k + y / suc l + z / suc m) 0
-small-are x y z k l m = rw (small-is x k, small-is y l, small-is z m, none-of, none-of, ← add-assoc)
-
--- the sums that the writer tests: 0 if DIFF holds these differences, and 0 if LUMA does
-abbrev diffOver : ℕ → ℕ → ℕ → ℕ
-diffOver r g b = wrappedSum r 2 / 4 + wrappedSum g 2 / 4 + wrappedSum b 2 / 4
-
-abbrev lumaOver : ℕ → ℕ → ℕ → ℕ
-lumaOver r g b =
-    wrappedSum g 32 / 64 + wrappedSum (wrappedDifference r g) 8 / 16 + wrappedSum (wrappedDifference b g) 8 / 16
-
--- near 0 for DIFF is near 0 for LUMA
-near-green : (g : ℕ) → g < 256 → wrappedSum g 2 < 4 → wrappedSum g 32 / 64 ≡ 0
-near-green g hg sg = omega arith
-
-near-other :
-    (x g : ℕ) → x < 256 → g < 256 → wrappedSum x 2 < 4 → wrappedSum g 2 < 4
-    → wrappedSum (wrappedDifference x g) 8 / 16 ≡ 0
-near-other x g hx hg sx sg = omega arith
+    go : (t : Bool) → ltb x 128 ≡ t → within below above (cond t (pos x) (negsuc (255 - x))) ≡ true → wrappedSum x below < below + above + 1
+    go true e fits = let near = ltb-true x 128 e in let h = leb-true x above fits in omega arith
+    go false e fits = let far = ltb-false x 128 e in let h = leb-true (suc (255 - x)) below fits in omega arith
 
 -- fe and a colour, as the bytes of one number
 rgb-bytes :
@@ -88,44 +57,45 @@ rgb-bytes p =
     let is : 254 + p % 16777216 * 256 ≡ packedOf 254 r g b = rw (below-alpha p) (omega arith) in
     rw (is, unpacked-packed 254 r g b (omega arith) (omega arith) (omega arith) (omega arith))
 
-module _ (p r g b : ℕ) (hr : r < 256) (hg : g < 256) (hb : b < 256) where
-  diff-test : fitsDiff r g b ≡ eqb (diffOver r g b) 0
+module _ (r g b : ℕ) (hr : r < 256) (hg : g < 256) (hb : b < 256) where
+  -- what DIFF holds takes two bits each
+  pub diff-small : fitsDiff r g b ≡ true → (wrappedSum r 2 < 4) × (wrappedSum g 2 < 4) × (wrappedSum b 2 < 4)
   unfolding fitsDiff
-  diff-test =
-      let each = within-is 2 1 (omega arith) (omega arith) in
-      rw (each r hr, each g hg, each b hb, small-are _ _ _ 3 3 3)
+  diff-small fits =
+      let first = and-split _ _ fits in
+      let others = and-split _ _ (first .1) in
+      let each = small 2 1 (omega arith) (omega arith) in
+      (each r hr (first .0), each g hg (others .0), each b hb (others .1))
 
-  luma-test : fitsLuma r g b ≡ eqb (lumaOver r g b) 0
+  -- what LUMA holds takes six bits, and four for each of the others
+  pub luma-small :
+      fitsLuma r g b ≡ true
+      → (wrappedSum g 32 < 64) × (wrappedSum (wrappedDifference r g) 8 < 16) × (wrappedSum (wrappedDifference b g) 8 < 16)
   unfolding fitsLuma
-  luma-test =
-      let green = within-is 32 31 (omega arith) (omega arith) g hg in
-      let other = within-is 8 7 (omega arith) (omega arith) in
-      let red = other (wrappedDifference r g) (omega arith) in
-      let blue = other (wrappedDifference b g) (omega arith) in
-      rw (green, red, blue, small-are _ _ _ 63 15 15)
+  luma-small fits =
+      let first = and-split _ _ fits in
+      let others = and-split _ _ (first .1) in
+      let each = small 8 7 (omega arith) (omega arith) in (
+        small 32 31 (omega arith) (omega arith) g hg (first .0),
+        each (wrappedDifference r g) (omega arith) (others .0),
+        each (wrappedDifference b g) (omega arith) (others .1),
+      )
 
-  -- what DIFF holds LUMA holds too
-  diff-luma : diffOver r g b ≡ 0 → lumaOver r g b ≡ 0
-  diff-luma near =
-      let sr : wrappedSum r 2 < 4 = omega arith in
-      let sg : wrappedSum g 2 < 4 = omega arith in
-      let sb : wrappedSum b 2 < 4 = omega arith in
-      rw (near-green g hg sg, near-other r g hr hg sr sg, near-other b g hb hg sb sg)
-
-  -- the bytes of each chunk
+-- the bytes of each chunk
+module _ (p r g b : ℕ) where
   pub bytes-diff :
-      diffOver r g b ≡ 0 → shiftedBytes p r g b ≡ (64 + wrappedSum r 2 * 16 + wrappedSum g 2 * 4 + wrappedSum b 2) ∷ []
+      fitsDiff r g b ≡ true → shiftedBytes p r g b ≡ (64 + wrappedSum r 2 * 16 + wrappedSum g 2 * 4 + wrappedSum b 2) ∷ []
   unfolding diffChunk chunkBytes
-  bytes-diff near = rw (diff-test, eq-eqb _ 0 near)
+  bytes-diff near = rw (near)
 
   pub bytes-luma :
-      lumaOver r g b ≡ 0 → (diffOver r g b ≡ 0 → ⊥)
+      fitsDiff r g b ≡ false → fitsLuma r g b ≡ true
       → let lr = wrappedSum (wrappedDifference r g) 8 in
       let lb = wrappedSum (wrappedDifference b g) 8 in
       shiftedBytes p r g b ≡ (128 + wrappedSum g 32) ∷ (lr * 16 + lb) ∷ []
   unfolding lumaChunk chunkBytes
-  bytes-luma near far = rw (diff-test, ne-eqb _ 0 far, luma-test, eq-eqb _ 0 near)
+  bytes-luma far near = rw (far, near)
 
-  pub bytes-rgb : (lumaOver r g b ≡ 0 → ⊥) → shiftedBytes p r g b ≡ unpacked (254 + p % 16777216 * 256) .rgba
+  pub bytes-rgb : fitsDiff r g b ≡ false → fitsLuma r g b ≡ false → shiftedBytes p r g b ≡ unpacked (254 + p % 16777216 * 256) .rgba
   unfolding chunkBytes unpacked
-  bytes-rgb far = rw (diff-test, ne-eqb _ 0 (λ near. far (diff-luma near)), luma-test, ne-eqb _ 0 far) (rgb-bytes p)
+  bytes-rgb far farther = rw (far, farther) (rgb-bytes p)

@@ -21,7 +21,8 @@ const NONE_DIFFERED: usize = 64;
 // Writes the chunks of a header's pixels at a place, and answers where they end.
 pub fn write(pixels: &[u8], header: Header, out: &mut [u8], start: usize) -> usize
     requires { ⌜ Fits (now pixels) (pixelCount header) (channelsNumber (header .channels)) (now out) start ⌝ }
-    ensures { λ r. ⌜ Puts start (pictureBytes (pixelCount header) (channelsNumber (header .channels)) (now (pixels .entry)))
+    ensures { λ r. ⌜ Puts start
+        (pictureBytes (pixelCount header) (channelsNumber (header .channels)) (now (pixels .entry)))
         (now (out .entry)) r (now (out .exit)) ⌝ }
 {
     let count = header.n_pixels();

@@ -87,7 +87,8 @@ impl Encoder {
 
     // The room that an encode asks for, saturating.
     pub fn required_buf_len(self) -> usize
-        ensures { λ r. ⌜ r ≡ encodedRoom (self .header .width) (self .header .height) (channelsNumber (self .header .channels)) ⌝ }
+        ensures { λ r. ⌜ r ≡ encodedRoom (self .header .width) (self .header .height)
+            (channelsNumber (self .header .channels)) ⌝ }
     {
         let header = self.header;
         header.encode_max_len()

@@ -45,7 +45,7 @@ pub channels-read-back : (c : Channels) → channelsFrom (channelsNumber c) ≡ 
 channels-read-back Rgb = refl
 channels-read-back Rgba = refl
 
-color-space-read-back : (s : ColorSpace) → colorSpaceFrom (colorSpaceNumber s) ≡ colorspace-read.Ok s
+pub color-space-read-back : (s : ColorSpace) → colorSpaceFrom (colorSpaceNumber s) ≡ colorspace-read.Ok s
 color-space-read-back Srgb = refl
 color-space-read-back Linear = refl
 
@@ -122,7 +122,7 @@ channels-number n c p = go (eqb n 3) refl (eqb n 4) refl
     go false e false f = cc (rw (e, f) at p)
 
 -- a number that is a colour space is that colour space's
-space-number : (n : ℕ) (s : ColorSpace) → colorSpaceFrom n ≡ colorspace-read.Ok s → colorSpaceNumber s ≡ n
+pub space-number : (n : ℕ) (s : ColorSpace) → colorSpaceFrom n ≡ colorspace-read.Ok s → colorSpaceNumber s ≡ n
 space-number n s p = go (eqb n 0) refl (eqb n 1) refl
   where
     go : (none : Bool) → eqb n 0 ≡ none → (one : Bool) → eqb n 1 ≡ one → colorSpaceNumber s ≡ n

@@ -2,7 +2,7 @@
 -- what decode answers is the document's.
 -- Assumes nothing.
 use mathlib.Core.Path.{_≡_, sym, _∙_, ap}
-use mathlib.Core.List.{List, _∷_}
+use mathlib.Core.List.{List, [], _∷_}
 use Prim.Native.Nat.{ℕ, _+_, _*_, _/_, _≤_}
 use native.Mathlib.Omega.{arith}
 use contract.Lifetimes.{Lfts}
@@ -13,13 +13,19 @@ use lib.ListN.{length, take, drop}
 use lib.Seq.{take-at}
 use Rattle.pixel.specs.Bytes.{AllBytes}
 use Rattle.pixel.specs.Refusal.{numberOf}
+use Rattle.header.specs.declared.Header.{Header}
+use Rattle.header.specs.Header.{headerOf}
+use Rattle.header.proofs.Laws.{channels-number, space-number}
 use Rattle.rules.specs.Bytes.{writtenOver}
 use Rattle.rules.specs.Reading.{Reading, Answer, done, refused}
-use Rattle.rules.specs.Encode.{EncodeAnswer, encoded, notEncoded, encoding}
-use Rattle.rules.specs.Figures.{answerFigures, encodeFigures}
+use Rattle.rules.specs.Encode.{PictureOf, EncodeAnswer, encoded, notEncoded, Encoding, encoding}
+use Rattle.rules.specs.Figures.{headerFigures, answerFigures, encodeFigures}
 use Rattle.demands.specs.ReadBack.{ReadBack}
 use Rattle.demands.proofs.Document.{document-agrees}
+use Rattle.demands.specs.Streams.{Wrote}
 use Rattle.demands.proofs.ReadBack.{encode-reads-back}
+use Rattle.demands.proofs.Traced.{stream-opens}
+use Rattle.demands.proofs.Wrote.{encode-wrote, encode-must-accept}
 use Rattle.decode.specs.declared.Decoded.the-variants as decoded
 use Rattle.decode.specs.Decoded.{answerOf, Decodes}
 use Rattle.decode.proofs as decodes
@@ -30,14 +36,18 @@ use Rattle.qoi.specs.Hosted.{IsEncode, IsDecode}
 use Rattle.qoi.proofs as qoi
 use Rattle.promises.specs.Determined.{Allows}
 use Rattle.promises.specs.Hosts.{says}
-use Rattle.promises.specs.Pictures.{saysDone, Brings, EncodeReadsBack, HostReadsBack, DecodeIsDocument, HostIsDocument}
+use Rattle.promises.specs.Pictures.{saysDone, Brings, EncodeReadsBack, HostReadsBack, EncodeAccepts, HostAccepts, DecodeIsDocument, HostIsDocument}
 use Rattle.promises.proofs.Hosts.{number-small, host-takes-over}
-use Rattle.promises.proofs.OneToOne.{answer-determined}
+use Rattle.promises.proofs.OneToOne.{answer-determined, encoded-determined}
 
--- a stream that is read back brings its picture
-read-back-brings : {picture stream : List ℕ} {channels : ℕ} → ReadBack picture stream channels → Brings picture stream channels
-read-back-brings {picture} {stream} back =
+-- a stream that is read back, and opens with its header, brings its picture
+read-back-brings :
+    {picture stream : List ℕ} {width height channels colorspace : ℕ}
+    → headerFigures (headerOf stream) ≡ 0 ∷ width ∷ height ∷ channels ∷ colorspace ∷ [] → ReadBack picture stream channels
+    → Brings picture stream width height channels colorspace
+read-back-brings {picture} {stream} opens back =
     record {
+      header-says = opens;
       document-reads = back .document-is;
       decode-brings = λ before r after fits allowed.
           let is = back .decoder-is (length before) fits in (
@@ -60,17 +70,25 @@ read-back-brings {picture} {stream} back =
 front : (bytes before after : List ℕ) (size : ℕ) → after ≡ writtenOver bytes before → size ≡ length bytes → take size after ≡ bytes
 front bytes before after size is all = rw (is) (take-at bytes (drop (0 + length bytes) before) size (sym all))
 
+-- the header of what an encode wrote
+opened :
+    {picture stream : List ℕ} {width height colorspace room size : ℕ} → Wrote picture stream width height colorspace room size
+    → headerFigures (headerOf stream) ≡ 0 ∷ width ∷ height ∷ length picture / (width * height) ∷ colorspace ∷ []
+opened {picture} {stream} {width} {height} {colorspace} wrote =
+    rw (wrote .stream-is, stream-opens (wrote .header) picture (wrote .picture-is .fit), wrote .width-is, wrote .height-is, channels-number (length picture / (width * height)) (wrote .header .channels) (wrote .channels-are), space-number colorspace (wrote .header .colorspace) (wrote .colorspace-is))
+
 module _ (picture : List ℕ) (width height : ℕ) where
   -- an accepted encode, by its answer and its bytes
   brings :
       AllBytes picture → (colorspace : ℕ) (before after : List ℕ) (size : ℕ)
       → encoding picture width height colorspace (length before) .answer ≡ encoded size
       → after ≡ writtenOver (encoding picture width height colorspace (length before) .bytes) before
-      → (size ≤ length before) × Brings picture (take size after) (length picture / (width * height))
+      → (size ≤ length before) × Brings picture (take size after) width height (length picture / (width * height)) colorspace
   brings bytes colorspace before after size accepted left =
       let wrote = encode-reads-back picture width height colorspace (length before) size bytes accepted in
       let stream = encoding picture width height colorspace (length before) .bytes in
-      (wrote .fits, rw (front stream before after size left (wrote .all)) (read-back-brings (wrote .back)))
+      let opens = opened (encode-wrote picture width height colorspace (length before) size accepted) in
+      (wrote .fits, rw (front stream before after size left (wrote .all)) (read-back-brings opens (wrote .back)))
 
   -- (a) for encode
   pub encode-call-reads-back : EncodeReadsBack picture width height
@@ -85,6 +103,16 @@ module _ (picture : List ℕ) (width height : ℕ) where
       accepted : (answer : EncodeAnswer) → encodeFigures answer ≡ says 0 size → answer ≡ encoded size
       accepted (encoded n) said = cc
       accepted (notEncoded e) said = let z : numberOf e ≡ 0 = cc in absurd (omega (arith, number-small e .0))
+
+-- an encode of a picture of a header is done
+module _ (header : Header) (picture : List ℕ) (of : PictureOf header picture) where
+  pub encode-call-accepts : EncodeAccepts header picture
+  encode-call-accepts before r after roomy allowed =
+      encoded-determined r _ (allowed .0 ∙ ap (λ (x : Encoding). x .answer) (encode-must-accept header picture of (length before) roomy))
+
+  pub host-encode-accepts : HostAccepts header picture
+  host-encode-accepts before figures left roomy allowed =
+      allowed .0 ∙ ap (λ (x : Encoding). encodeFigures (x .answer)) (encode-must-accept header picture of (length before) roomy)
 
 -- (b) for decode
 pub decode-call-is-document : (m : List ℕ) → DecodeIsDocument m

@@ -6,13 +6,14 @@ use Prim.Native.Nat.{ℕ, _*_, _/_, _≤_}
 use lib.Dec.{T}
 use lib.ListN.{length, take}
 use Rattle.pixel.specs.Bytes.{AllBytes}
+use Rattle.pixel.specs.Types.{channelsNumber, colorSpaceNumber}
 use Rattle.header.specs.declared.Header.{Header}
 use Rattle.header.specs.declared.HeaderRead.the-variants as header-read
-use Rattle.header.specs.Header.{headerOf}
+use Rattle.header.specs.Header.{headerOf, encodedRoom}
 use Rattle.rules.specs.Bytes.{writtenOver}
 use Rattle.rules.specs.Document.{documentReading, indexesFilled}
-use Rattle.rules.specs.Encode.{encoding}
-use Rattle.rules.specs.Figures.{answerFigures}
+use Rattle.rules.specs.Encode.{streamOf, encoding}
+use Rattle.rules.specs.Figures.{headerFigures, answerFigures}
 use Rattle.rules.specs.Record.{readRecord}
 use Rattle.rules.specs.Trace.{ownChannels}
 use Rattle.demands.specs.ReadBack.{pictureRead}
@@ -29,8 +30,11 @@ use Rattle.promises.specs.Hosts.{says, returned, recordRoom, Host}
 abbrev pub saysDone : ℕ → ℕ → List ℕ
 saysDone size used = 0 ∷ size ∷ used ∷ 0 ∷ 0 ∷ []
 
--- A message brings a picture at its channels: into any output that holds it, whoever reads it.
-pub record Brings (picture message : List ℕ) (channels : ℕ) : Type 0 where
+-- A message brings a picture of these dimensions, channels and colour space: into any output that holds it, whoever
+-- reads it.
+pub record Brings (picture message : List ℕ) (width height channels colorspace : ℕ) : Type 0 where
+  -- its header says so: what pivotshade_header answers
+  pub header-says : headerFigures (headerOf message) ≡ 0 ∷ width ∷ height ∷ channels ∷ colorspace ∷ []
   -- the document's reading accepts it, and is the picture
   pub document-reads : (room : ℕ) → length picture ≤ room → documentReading message channels room ≡ pictureRead picture message
   -- decode answers with all its bytes, and leaves the picture followed by what the output held
@@ -55,14 +59,31 @@ abbrev pub EncodeReadsBack : List ℕ → ℕ → ℕ → Type 0
 EncodeReadsBack picture width height =
     AllBytes picture → (colorspace : ℕ) (before : List ℕ) (r : Encoded) (after : List ℕ) (size : ℕ)
     → Encodes (encoding picture width height colorspace (length before)) before r after → r ≡ encoded.Done size
-    → (size ≤ length before) × Brings picture (take size after) (length picture / (width * height))
+    → (size ≤ length before) × Brings picture (take size after) width height (length picture / (width * height)) colorspace
 
 -- and for pivotshade_encode
 abbrev pub HostReadsBack : List ℕ → ℕ → ℕ → Type 0
 HostReadsBack picture width height =
     AllBytes picture → (colorspace : ℕ) (before figures left : List ℕ) (size : ℕ)
     → IsEncode picture width height colorspace before figures left → figures ≡ says 0 size
-    → (size ≤ length before) × Brings picture (take size left) (length picture / (width * height))
+    → (size ≤ length before) × Brings picture (take size left) width height (length picture / (width * height)) colorspace
+
+-- and it is done, for every picture of a header, into the room that the header asks for; with `EncodeReadsBack` this
+-- shuts out an encode that refuses
+abbrev pub EncodeAccepts : Header → List ℕ → Type 0
+EncodeAccepts header picture =
+    (before : List ℕ) (r : Encoded) (after : List ℕ)
+    → encodedRoom (header .width) (header .height) (channelsNumber (header .channels)) ≤ length before
+    → Encodes (encoding picture (header .width) (header .height) (colorSpaceNumber (header .colorspace)) (length before)) before r after
+    → r ≡ encoded.Done (length (streamOf header picture))
+
+-- and for pivotshade_encode
+abbrev pub HostAccepts : Header → List ℕ → Type 0
+HostAccepts header picture =
+    (before figures left : List ℕ)
+    → encodedRoom (header .width) (header .height) (channelsNumber (header .channels)) ≤ length before
+    → IsEncode picture (header .width) (header .height) (colorSpaceNumber (header .colorspace)) before figures left
+    → figures ≡ says 0 (length (streamOf header picture))
 
 -- (b) for decode: a message that it accepts at the header's channels, where no INDEX names a slot not yet filled, slot 0
 -- of a 4-channel source excepted: answer and output are the document's

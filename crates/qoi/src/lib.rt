@@ -88,7 +88,8 @@ pub extern "C" fn pivotshade_encode(
     out: &mut [u8],
     figures: &mut FourFigures,
 ) -> u64
-    ensures { λ r. ⌜ IsEncode (now (pixels .entry)) width height colorspace (now (out .entry)) (r ∷ now (figures .exit)) (now (out .exit)) ⌝ }
+    ensures { λ r. ⌜ IsEncode (now (pixels .entry)) width height colorspace (now (out .entry))
+        (r ∷ now (figures .exit)) (now (out .exit)) ⌝ }
 {
     match encode::encode(pixels, width, height, colorspace, out) {
         Encoded::Refused(e) => refuse(e, figures),
