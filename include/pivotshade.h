@@ -22,9 +22,9 @@ uint64_t pivotshade_header(const uint8_t *msg, size_t len, uint64_t figures[4]);
    chunks done, after 8 every pixel; no other byte of out changes. */
 uint64_t pivotshade_decode(const uint8_t *msg, size_t len, uint64_t wanted, uint8_t *out, size_t out_len, uint64_t figures[4]);
 
-/* Encodes a picture of width x height pixels, len bytes of 3 or 4 channels each (len says which), in colour space 0 (sRGB) or 1 (linear): bytes
-   written. out needs 22 + pixels x (channels + 1) bytes, else 7, however few are written. After a refusal nothing is written; no byte of out
-   after those written changes. */
+/* Encodes width x height pixels of 3 or 4 bytes each, len bytes in all (len says which), in colour space 0 (sRGB) or 1 (linear): bytes written.
+   Refused in this order: 5, 6, 2, 3, 7. out needs 22 + pixels x (channels + 1) bytes, however few are written. After a refusal nothing is
+   written; no byte of out after those written changes. */
 uint64_t pivotshade_encode(const uint8_t *px, size_t len, uint32_t width, uint32_t height, uint64_t colorspace, uint8_t *out, size_t out_len,
                            uint64_t figures[4]);
 

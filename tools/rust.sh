@@ -21,7 +21,7 @@ add_packages() {
     echo "installing $*" >&2
     quietly apt-get install -y --no-install-recommends "$@"
 }
-# can_have TEST PACKAGE...: whether the command TEST succeeds, where it does not at once after the packages are installed, if one may
+# can_have TEST PACKAGE...: whether the command TEST succeeds; where it does not, the packages are installed, if one may, and it is tried again
 can_have() {
     "$1" && return
     may_install || return

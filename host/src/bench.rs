@@ -45,7 +45,7 @@ struct Sample {
     message: Vec<u8>,
 }
 
-/// The least time of each of so many callers, in nanoseconds. Each goes first as often as the others.
+/// The least time of each caller, in nanoseconds. Each goes first as often as the others.
 fn race(
     callers: usize,
     call: impl Fn(usize, &mut [u8]) -> Answer,

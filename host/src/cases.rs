@@ -109,7 +109,7 @@ pub const KINDS: [(&str, Cases); 41] = [
     ("encode: random faults", Cases::Some(encodes::random_faults)),
 ];
 
-/// No output of a case is longer, but those of the images.
+/// No output of a decode is longer, but those of the images.
 const MOST: u64 = 65_536;
 
 /// The room that the message asks for; little where that is too much, or the header bad.

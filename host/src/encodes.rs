@@ -268,7 +268,7 @@ pub fn rain(check: &mut Check, random: &mut Random) {
 
 /// Each pixel takes the longest chunk, so that the last byte of the room is written.
 pub fn longest(check: &mut Check, random: &mut Random) {
-    let mut colour = *random.pick(&FIRSTS);
+    let mut colour = START;
     let colours: Vec<Colour> = (0..random.between(1, 40))
         .map(|_| {
             let [r, g, b, a] = (random.next() as u32).to_le_bytes();
@@ -344,7 +344,7 @@ const COLOUR_SPACES: [u64; 13] = [
 /// No more bytes of pixels are lent than this.
 const MOST: usize = 6000;
 
-/// So many bytes for each pixel, and so many more or less; few bytes where the pixels are none or too many.
+/// `quotient` bytes for each pixel, and `more` besides; few bytes where the pixels are none or too many.
 fn some_pixels(size: (u32, u32), quotient: usize, more: isize) -> Vec<u8> {
     let pixels = size.0 as usize * size.1 as usize;
     let length = if pixels == 0 || pixels > MOST / 300 {

@@ -117,7 +117,7 @@ fn pam_pixels(file: &[u8], picture: &Picture) -> Result<Vec<u8>, String> {
     }
 }
 
-// ffmpeg, through raw pixels
+// ffmpeg, to PAM files and from raw pixels
 
 fn raw_format(picture: &Picture) -> &'static str {
     if picture.channels == 3 {
@@ -128,9 +128,8 @@ fn raw_format(picture: &Picture) -> &'static str {
 }
 
 fn ffmpeg_reads(folder: &Path, picture: &Picture) -> Result<Vec<u8>, String> {
-    let format = raw_format(picture);
-    let command = format!("ffmpeg -v error -i {OURS} -f rawvideo -pix_fmt {format} -");
-    Ok(rgba(&call(folder, &command)?, picture.channels))
+    let command = format!("ffmpeg -v error -i {OURS} -c:v pam -f image2pipe -");
+    pam_pixels(&call(folder, &command)?, picture)
 }
 
 fn ffmpeg_writes(folder: &Path, picture: &Picture) -> Result<Vec<u8>, String> {

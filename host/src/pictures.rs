@@ -36,7 +36,7 @@ impl Picture {
         Self::of(colours.len(), 1, channels, |x, _| colours[x])
     }
 
-    /// A part, at most so wide and so high.
+    /// A part, at most `most` pixels wide and `most` high.
     pub fn part(&self, random: &mut Random, most: usize) -> Self {
         let (width, height) = (self.width as usize, self.height as usize);
         let part = (

@@ -2,19 +2,18 @@
 -- for the chunk's bytes, and those bytes are the chunk's.
 -- Assumes nothing.
 use mathlib.Core.Path.{_≡_, refl, sym, _∙_}
-use mathlib.Core.Bool.{Bool, true, false, cond, _&&_}
+use mathlib.Core.Bool.{Bool, true, false, _&&_}
 use mathlib.Core.List.{[], _∷_}
-use Prim.Native.Nat.{ℕ, suc, _+_, _-_, _*_, _/_, _%_, _≤_, _<_}
+use Prim.Native.Nat.{ℕ, suc, _+_, _-_, _*_, _/_, _%_, _<_}
 use native.Mathlib.Omega.{arith}
-use borrow.Author.Tests.{ltb-true, ltb-false, leb-true}
-use lib.Dec.{ltb, leb·suc-suc}
+use lib.Dec.{leb·suc-suc}
 use lib.IntN.{ℤ, pos, negsuc}
 use lib.Signed.{leZ}
 use Rattle.pixel.specs.Colour.{wrappedSum, wrappedDifference, signedOf, within}
 use Rattle.pixel.specs.Packed.{packedOf, unpacked}
 use Rattle.pixel.proofs.PackedLaws.{unpacked-packed, below-alpha}
 use Rattle.rules.specs.Encode.{fitsDiff, fitsLuma, diffChunk, lumaChunk, chunkBytes}
-use Rattle.rules.proofs.EncodeLaws.{and-split}
+use Rattle.rules.proofs.EncodeLaws.{and-split, within-fits}
 use Rattle.encode.specs.Asked.{shiftedBytes}
 
 -- a number at or above a range's lower end is in the range if it is at or below the upper end
@@ -37,16 +36,6 @@ second-fails c first held second failed = rw (← first, held, ← second, faile
 pub third-decides : {a b c s t u : Bool} → s ≡ a → s ≡ true → t ≡ b → t ≡ true → u ≡ c → u ≡ a && (b && c)
 third-decides first held second also third = rw (← first, held, ← second, also) third
 
--- a difference in a range is small once the number that the chunk adds to it is added
-small :
-    (below above : ℕ) → below ≤ 128 → above < 128 → (x : ℕ) → x < 256
-    → within below above (signedOf x) ≡ true → wrappedSum x below < below + above + 1
-small below above hb ha x hx = go (ltb x 128) refl
-  where
-    go : (t : Bool) → ltb x 128 ≡ t → within below above (cond t (pos x) (negsuc (255 - x))) ≡ true → wrappedSum x below < below + above + 1
-    go true e fits = let near = ltb-true x 128 e in let h = leb-true x above fits in omega arith
-    go false e fits = let far = ltb-false x 128 e in let h = leb-true (suc (255 - x)) below fits in omega arith
-
 -- fe and a colour, as the bytes of one number
 rgb-bytes :
     (p : ℕ) → 254 ∷ p % 256 ∷ p / 256 % 256 ∷ p / 65536 % 256 ∷ [] ≡ unpacked (254 + p % 16777216 * 256) .rgba
@@ -64,7 +53,7 @@ module _ (r g b : ℕ) (hr : r < 256) (hg : g < 256) (hb : b < 256) where
   diff-small fits =
       let first = and-split _ _ fits in
       let others = and-split _ _ (first .1) in
-      let each = small 2 1 (omega arith) (omega arith) in
+      let each : (x : ℕ) → x < 256 → within 2 1 (signedOf x) ≡ true → wrappedSum x 2 < 4 = λ x h. within-fits 2 1 x h (omega arith) (omega arith) in
       (each r hr (first .0), each g hg (others .0), each b hb (others .1))
 
   -- what LUMA holds takes six bits, and four for each of the others
@@ -75,8 +64,8 @@ module _ (r g b : ℕ) (hr : r < 256) (hg : g < 256) (hb : b < 256) where
   luma-small fits =
       let first = and-split _ _ fits in
       let others = and-split _ _ (first .1) in
-      let each = small 8 7 (omega arith) (omega arith) in (
-        small 32 31 (omega arith) (omega arith) g hg (first .0),
+      let each : (x : ℕ) → x < 256 → within 8 7 (signedOf x) ≡ true → wrappedSum x 8 < 16 = λ x h. within-fits 8 7 x h (omega arith) (omega arith) in (
+        within-fits 32 31 g hg (omega arith) (omega arith) (first .0),
         each (wrappedDifference r g) (omega arith) (others .0),
         each (wrappedDifference b g) (omega arith) (others .1),
       )

@@ -2,10 +2,10 @@
 ghost use mathlib.Core.Path.{_≡_};
 ghost use lib.ListN.{length};
 ghost use Rattle.pixel.specs.Types.{channelsNumber};
-ghost use Rattle.header.specs.Header.{encodedRoom, withColorSpace};
+ghost use Rattle.header.specs.Header.{encodedRoom, pixelCount, withColorSpace};
 ghost use Rattle.rules.specs.Bytes.{Puts};
 ghost use Rattle.rules.specs.Encode.{streamOf, pictureHeader, encoding, encodingUnder};
-ghost use Rattle.encode.specs.Asked.{Framed};
+ghost use Rattle.encode.specs.Asked.{Fits, Framed, pictureBytes};
 ghost use Rattle.encode.specs.Encoded.{encoderOf, Encodes};
 use header::Header;
 use header::HeaderRead;
@@ -16,9 +16,11 @@ use pixel::types::ChannelsRead;
 use pixel::types::ColorSpace;
 use pixel::types::ColorSpaceRead;
 
-mod chunks;
 mod colour;
+mod four;
 mod put;
+mod run;
+mod three;
 
 pub enum Encoded {
     // Bytes written: header, chunks and marker.
@@ -156,7 +158,22 @@ fn write_stream(pixels: &[u8], header: Header, out: &mut [u8]) -> usize
 {
     let fourteen = header.encode();
     let start = bytes::copy(&fourteen, out);
-    let end = chunks::write(pixels, header, out, start);
+    let end = write_chunks(pixels, header, out, start);
     let marker = QOI_PADDING;
     end + bytes::copy(&marker, &mut out[end..])
+}
+
+// Writes the chunks of a header's pixels at a place, and answers where they end.
+fn write_chunks(pixels: &[u8], header: Header, out: &mut [u8], start: usize) -> usize
+    requires { ⌜ Fits (now pixels) (pixelCount header) (channelsNumber (header .channels)) (now out) start ⌝ }
+    ensures { λ r. ⌜ Puts start
+        (pictureBytes (pixelCount header) (channelsNumber (header .channels)) (now (pixels .entry)))
+        (now (out .entry)) r (now (out .exit)) ⌝ }
+{
+    let count = header.n_pixels();
+    let channels = header.channels;
+    match channels {
+        Channels::Rgb => three::write_three(pixels, count, out, start),
+        Channels::Rgba => four::write_four(pixels, count, out, start),
+    }
 }

@@ -150,8 +150,8 @@ shift-back x by hx hb = omega arith
 difference-small : (x a : ℕ) → wrappedDifference x a < 256
 difference-small x a = omega arith
 
--- a difference in a range fits the range's bits once its lower end is added
-within-fits :
+-- a difference in a range fits the range's bits once its lower end is taken off
+pub within-fits :
     (below above x : ℕ) → x < 256 → above < 128 → below ≤ 128 → within below above (signedOf x) ≡ true
     → wrappedSum x below < below + above + 1
 within-fits below above x small ha hb e = go (ltb x 128) refl e

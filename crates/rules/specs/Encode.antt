@@ -1,6 +1,6 @@
 -- The encoder's rules: the chunks that it chooses, how they are written, the stream of a picture, and the order of
 -- the refusals.
--- The order of refusals reads from the bottom up: the last definition of it makes the first test.
+-- The order of refusals reads from the bottom up, in two parts: a picture's header (5, 6, 2), and then 3 and 7.
 use mathlib.Core.Bool.{Bool, true, false, cond, _&&_, _||_}
 use mathlib.Core.List.{List, [], _∷_, _++_}
 use mathlib.Core.Path.{_≡_}

@@ -47,7 +47,7 @@ fn case(list: &mut List, group: Option<char>, picture: &Picture, room: usize) {
     list.case(group.unwrap_or(by_answer), &answer, &input);
 }
 
-/// The room that pixels of this length ask for, of which there are so many.
+/// The room that `pixels` pixels of `length` bytes in all ask for.
 fn room(pixels: usize, length: usize) -> usize {
     22 + pixels + length
 }
@@ -203,7 +203,7 @@ fn single_pixels(list: &mut List) {
     row(list, 4, &[[0, 0, 0, 128]]);
 }
 
-/// A refused picture of so many bytes; or an accepted one, where nothing is wrong with it.
+/// A picture of this length: refused, or accepted where nothing is wrong with it.
 fn of_length(list: &mut List, size: (u32, u32), length: usize, colorspace: u8, room: usize) {
     let picture = Picture {
         size,

@@ -3,7 +3,6 @@
 -- Assumes nothing.
 use mathlib.Core.Path.{refl, sym, _∙_}
 use lib.ListN.{length}
-use lib.ListN.{length}
 use borrow.Author.Needs.{needs}
 use Rattle.encode.proofs.Order.{header-refused, space-refused, space-good}
 use Rattle.encode.proofs.encode.Statement.{statement}

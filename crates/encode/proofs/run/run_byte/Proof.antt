@@ -1,11 +1,11 @@
--- `encode::chunks::run_byte` meets its contract: its test is the rule's.
+-- `encode::run::run_byte` meets its contract: its test is the rule's.
 -- Assumes nothing.
 use mathlib.Core.Logic.{⊎-elim}
 use borrow.Author.Needs.{needs}
 use borrow.Author.Tests.{eq-eqb, ne-eqb}
 use Rattle.encode.specs.Asked.{endedByte}
-use Rattle.encode.proofs.chunks.run_byte.Statement.{statement}
-use Rattle.encode.proofs.chunks.run_byte.Tie as tie
+use Rattle.encode.proofs.run.run_byte.Statement.{statement}
+use Rattle.encode.proofs.run.run_byte.Tie as tie
 
 returns : tie.Need-returns
 unfolding endedByte

@@ -1,4 +1,4 @@
--- `encode::chunks::end_run` meets its contract: nothing where there is no run, else the run's byte.
+-- `encode::run::end_run` meets its contract: nothing where there is no run, else the run's byte.
 -- Assumes nothing.
 use mathlib.Core.Path.{sym}
 use native.Mathlib.Nat.{add-zero}
@@ -6,8 +6,8 @@ use borrow.Author.Needs.{needs}
 use borrow.Author.Tests.{eq-eqb, ne-eqb}
 use Rattle.rules.proofs.PastingLaws.{pasted-none}
 use Rattle.encode.specs.Asked.{endedBytes}
-use Rattle.encode.proofs.chunks.end_run.Statement.{statement}
-use Rattle.encode.proofs.chunks.end_run.Tie as tie
+use Rattle.encode.proofs.run.end_run.Statement.{statement}
+use Rattle.encode.proofs.run.end_run.Tie as tie
 
 returns : tie.Need-returns
 unfolding endedBytes

@@ -1,7 +1,7 @@
--- `encode::chunks::write_four` meets its contract: at the loop's head what is written, followed by the chunks still to
+-- `encode::three::write_three` meets its contract: at the loop's head what is written, followed by the chunks still to
 -- come, is all that is to be written.
 -- Assumes nothing.
-use mathlib.Core.Path.{_∙_}
+use mathlib.Core.Path.{refl, _∙_}
 use mathlib.Core.List.{[]}
 use Prim.Native.Nat.{_+_, _-_, _<_}
 use native.Mathlib.Omega.{arith}
@@ -10,20 +10,20 @@ use lib.ListN.{length}
 use Rattle.rules.specs.Bytes.{pasted}
 use Rattle.rules.proofs.ChunkLaws.{slot-small}
 use Rattle.encode.specs.Asked.{pictureBytes, endedBytes}
-use Rattle.encode.proofs.Loop.{Head, first-fits, advance, ended-at, start-head, pixel-within, full-fits, after-full, after-longer, run-fits, index-fits, after-index, colour-fits, after-colour, last-run}
-use Rattle.encode.proofs.chunks.write_four.Statement.{statement}
-use Rattle.encode.proofs.chunks.write_four.Tie as tie
+use Rattle.encode.proofs.Loop.{Head, first-fits, advance, ended-at, start-head, pixel-within, full-fits, after-full, after-longer, run-fits, index-fits, after-index, colour-fits, after-colour, last-run, alpha-kept}
+use Rattle.encode.proofs.three.write_three.Statement.{statement}
+use Rattle.encode.proofs.three.write_three.Tie as tie
 
 abbrev Inv-loop : tie.InvT-loop
 Inv-loop pixels count out₀ start slots₀ previous₀ run₀ slot₀ i₀ at₀ out slots previous run slot i at =
-    let all = pictureBytes count 4 pixels in
-    Head pixels 4 count (length out₀) (start + length all) (pasted start all out₀) out slots previous run slot i at
+    let all = pictureBytes count 3 pixels in
+    Head pixels 3 count (length out₀) (start + length all) (pasted start all out₀) out slots previous run slot i at
 
 abbrev μ-loop : tie.MeasureT-loop
 μ-loop pixels count out₀ start slots₀ previous₀ run₀ slot₀ i₀ at₀ out slots previous run slot i at =
     count - i
 
-packed-fits : (c : tie.After-four-at Inv-loop μ-loop) → c .four-at .result < 4294967296
+packed-fits : (c : tie.After-three-at Inv-loop μ-loop) → c .three-at .result < 4294967296
 packed-fits c = search needs
 
 slot-low : (c : tie.After-slot Inv-loop μ-loop) → c .slot .result < 64
@@ -32,33 +32,33 @@ slot-low c = rw (c .slot .ensures) (slot-small _)
 loop-holds : tie.Need-loop-holds Inv-loop μ-loop
 loop-holds c = start-head _ _ _ _ _ (c .before .before .pre)
 
-mul-four-at : tie.Need-mul-four-at Inv-loop μ-loop
-mul-four-at c = record { fits = omega (arith, pixel-within _ _ _ _ _ _ (c .before .loop .inv) (c .loop-test .taken)) }
+mul-three-at : tie.Need-mul-three-at Inv-loop μ-loop
+mul-three-at c = record { fits = omega (arith, pixel-within _ _ _ _ _ _ (c .before .loop .inv) (c .loop-test .taken)) }
 
-four-at-requires : tie.Need-four-at-requires Inv-loop μ-loop
-four-at-requires c κs = pixel-within _ _ _ _ _ _ (c .before .loop .inv) (c .loop-test .taken)
+three-at-requires : tie.Need-three-at-requires Inv-loop μ-loop
+three-at-requires c κs = pixel-within _ _ _ _ _ _ (c .before .loop .inv) (c .loop-test .taken)
 
 end-run-requires : tie.Need-end-run-requires Inv-loop μ-loop
 end-run-requires c κs =
     let t = c .before .before .before in
-    (omega arith, full-fits _ _ _ _ _ _ (t .before .before .loop .inv) (t .before .loop-test .taken) _ (t .four-at .ensures) (c .before .before .if1 .taken) (c .before .if2 .taken))
+    (omega arith, full-fits _ _ _ _ _ _ (t .before .before .loop .inv) (t .before .loop-test .taken) _ (t .three-at .ensures) (c .before .before .if1 .taken) (c .before .if2 .taken))
 
 loop-again : tie.Need-loop-again Inv-loop μ-loop
 loop-again c =
     let t = c .before .before .before .before .before .before in
-    after-full _ _ _ _ _ _ (t .before .before .loop .inv) (t .before .loop-test .taken) _ (t .four-at .ensures)
+    after-full _ _ _ _ _ _ (t .before .before .loop .inv) (t .before .loop-test .taken) _ (t .three-at .ensures)
     (c .before .before .before .before .before .if1 .taken) (c .before .before .before .before .if2 .taken) (c .before .before .end-run .ensures)
 
 loop-again-2 : tie.Need-loop-again-2 Inv-loop μ-loop
 loop-again-2 c =
     let t = c .before .before in
-    after-longer _ _ _ _ _ _ (t .before .before .loop .inv) (t .before .loop-test .taken) _ (t .four-at .ensures) (c .before .if1 .taken) (c .if2 .left)
+    after-longer _ _ _ _ _ _ (t .before .before .loop .inv) (t .before .loop-test .taken) _ (t .three-at .ensures) (c .before .if1 .taken) (c .if2 .left)
 
 end-run-requires-2 : tie.Need-end-run-requires-2 Inv-loop μ-loop
 end-run-requires-2 c κs =
     let t = c .before .before in
     let h = t .before .before .loop .inv in
-    (omega (arith, h .short-run), run-fits _ _ _ _ _ _ h (t .before .loop-test .taken) _ (t .four-at .ensures) (packed-fits t) (c .before .if1 .left))
+    (omega (arith, h .short-run), run-fits _ _ _ _ _ _ h (t .before .loop-test .taken) _ (t .three-at .ensures) (packed-fits t) (c .before .if1 .left))
 
 mul-if3 : tie.Need-mul-if3 Inv-loop μ-loop
 mul-if3 c = record { fits = omega (arith, slot-low c) }
@@ -72,7 +72,7 @@ cast-one c = omega (arith, slot-low (c .before .before))
 one-requires : tie.Need-one-requires Inv-loop μ-loop
 one-requires c κs =
     let t = c .before .before .before .before .before .before .before .before in
-    index-fits _ _ _ _ _ _ (t .before .before .loop .inv) (t .before .loop-test .taken) _ (t .four-at .ensures) (packed-fits t)
+    index-fits _ _ _ _ _ _ (t .before .before .loop .inv) (t .before .loop-test .taken) _ (t .three-at .ensures) (packed-fits t)
     (c .before .before .before .before .before .before .before .if1 .left) (c .before .before .before .before .before .end-run2 .ensures) (c .before .before .slot .ensures) (c .before .if3 .taken)
 
 mul-slots : tie.Need-mul-slots Inv-loop μ-loop
@@ -81,27 +81,29 @@ mul-slots c = record { fits = omega (arith, slot-low (c .before)) }
 array-write-slots : tie.Need-array-write-slots Inv-loop μ-loop
 array-write-slots c = slot-low (c .before)
 
-write-requires : tie.Need-write-requires Inv-loop μ-loop
-write-requires c κs =
+write-same-alpha-requires : tie.Need-write-same-alpha-requires Inv-loop μ-loop
+write-same-alpha-requires c κs =
     let t = c .before .before .before .before .before .before .before .before in
     let h = t .before .before .loop .inv in
     let turn = t .before .loop-test .taken in
-    let is = t .four-at .ensures in
+    let is = t .three-at .ensures in
     let other = c .before .before .before .before .before .before .before .if1 .left in
-    let ended = c .before .before .before .before .before .end-run2 .ensures in
-    colour-fits _ _ _ _ _ _ h turn _ is (packed-fits t) other ended (c .before .before .slot .ensures) (c .before .if3 .left)
+    let ended = c .before .before .before .before .before .end-run2 .ensures in (
+      alpha-kept _ _ _ _ _ _ h turn _ is (packed-fits t) other ended (c .before .before .slot .ensures) (c .before .if3 .left) refl,
+      colour-fits _ _ _ _ _ _ h turn _ is (packed-fits t) other ended (c .before .before .slot .ensures) (c .before .if3 .left),
+    )
 
 loop-again-3 : tie.Need-loop-again-3 Inv-loop μ-loop
 loop-again-3 c =
     let t = c .before .before .before .before .before .before .before .before .before .before .before in
-    after-index _ _ _ _ _ _ (t .before .before .loop .inv) (t .before .loop-test .taken) _ (t .four-at .ensures) (packed-fits t)
+    after-index _ _ _ _ _ _ (t .before .before .loop .inv) (t .before .loop-test .taken) _ (t .three-at .ensures) (packed-fits t)
     (c .before .before .before .before .before .before .before .before .before .before .if1 .left) (c .before .before .before .before .before .before .before .before .end-run2 .ensures) (c .before .before .before .before .before .slot .ensures) (c .before .before .before .before .if3 .taken) (c .before .before .one .ensures)
 
 loop-again-4 : tie.Need-loop-again-4 Inv-loop μ-loop
 loop-again-4 c =
     let t = c .before .before .before .before .before .before .before .before .before .before .before in
-    after-colour _ _ _ _ _ _ (t .before .before .loop .inv) (t .before .loop-test .taken) _ (t .four-at .ensures) (packed-fits t)
-    (c .before .before .before .before .before .before .before .before .before .before .if1 .left) (c .before .before .before .before .before .before .before .before .end-run2 .ensures) (c .before .before .before .before .before .slot .ensures) (c .before .before .before .before .if3 .left) (c .before .before .write .ensures)
+    after-colour _ _ _ _ _ _ (t .before .before .loop .inv) (t .before .loop-test .taken) _ (t .three-at .ensures) (packed-fits t)
+    (c .before .before .before .before .before .before .before .before .before .before .if1 .left) (c .before .before .before .before .before .before .before .before .end-run2 .ensures) (c .before .before .before .before .before .slot .ensures) (c .before .before .before .before .if3 .left) (c .before .before .write-same-alpha .ensures)
 
 end-run-requires-3 : tie.Need-end-run-requires-3 Inv-loop μ-loop
 end-run-requires-3 c κs =
@@ -116,15 +118,15 @@ returns c =
     ended-at
     (advance (endedBytes _ 64) [] (last-run _ _ _ _ _ _ (c .before .before .before .before .before .loop .inv) (c .before .before .before .before .loop-test .left)) _ _ (c .before .before .end-run3 .ensures))
 
-pub write-four-spec : {M : Type 1} → statement M
-write-four-spec =
+pub write-three-spec : {M : Type 1} → statement M
+write-three-spec =
     tie.close
     (tie.spec
     Inv-loop
     μ-loop
     loop-holds
-    mul-four-at
-    four-at-requires
+    mul-three-at
+    three-at-requires
     (λ c. search needs)
     (λ c. omega arith)
     end-run-requires
@@ -140,7 +142,7 @@ write-four-spec =
     one-requires
     mul-slots
     array-write-slots
-    write-requires
+    write-same-alpha-requires
     (λ c. omega arith)
     loop-again-3
     (λ c. omega arith)
