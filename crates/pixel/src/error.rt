@@ -1,6 +1,11 @@
-// The refusals of document 01, each with the number and the figures that its table gives.
+// The refusals of document 01, each with the number and the figures that its table gives, and in words.
 ghost use mathlib.Core.Path.{_≡_};
+ghost use lib.ListN.{length};
+ghost use Rattle.text.specs.Text.{textOf, putOver};
 ghost use Rattle.pixel.specs.Refusal.{numberOf, figuresOf};
+ghost use Rattle.pixel.specs.Words.{wordsOf, wordedIn};
+use crate::words;
+use text::Text;
 
 // The figures of an answer, zeros after them.
 pub type FourFigures = [u64; 4];
@@ -98,4 +103,39 @@ impl Error {
             Error::BytesAfterMarker => [0, 0, 0, 0],
         }
     }
+
+    // Writes the refusal in words at the front of an output; nothing where there is no room for them.
+    pub fn text(self, out: &mut [u8]) -> Worded
+        ensures { λ r. ⌜ r ≡ wordedIn (wordsOf (numberOf self) (figuresOf self)) (length (now (out .entry))) ⌝ }
+        ensures { λ _. ⌜ now (out .exit) ≡ putOver (wordsOf (numberOf self) (figuresOf self)) (now (out .entry)) ⌝ }
+    {
+        text_of(self.number(), self.figures(), out)
+    }
+}
+
+// How many bytes of words were written, or 7.
+pub enum Worded {
+    Done(usize),
+    Refused(Error),
+}
+
+// Writes the words of a number and its figures, also of a number that is no refusal.
+pub fn text_of(number: u64, figures: FourFigures, out: &mut [u8]) -> Worded
+    ensures { λ r. ⌜ r ≡ wordedIn (wordsOf number figures) (length (now (out .entry))) ⌝ }
+    ensures { λ _. ⌜ now (out .exit) ≡ putOver (wordsOf number figures) (now (out .entry)) ⌝ }
+{
+    put_text(words::of(number, figures[0], figures[1], figures[2]), out)
+}
+
+// Puts a text into an output that has room for it.
+pub fn put_text(text: Text, out: &mut [u8]) -> Worded
+    ensures { λ r. ⌜ r ≡ wordedIn (textOf text) (length (now (out .entry))) ⌝ }
+    ensures { λ _. ⌜ now (out .exit) ≡ putOver (textOf text) (now (out .entry)) ⌝ }
+{
+    let size = out.len();
+    let required = text.put(out);
+    if size < required {
+        return Worded::Refused(Error::OutputBufferTooSmall { size, required });
+    }
+    Worded::Done(required)
 }

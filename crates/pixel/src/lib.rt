@@ -7,6 +7,7 @@ pub mod consts;
 pub mod error;
 pub mod packed;
 pub mod types;
+mod words;
 
 // Red, green, blue, alpha. Where pixels have three channels the alpha is 255.
 pub struct Pixel {

@@ -3,12 +3,14 @@ use mathlib.Core.Path.{_≡_}
 use mathlib.Core.List.{List, [], _∷_}
 use Prim.Native.Nat.{ℕ}
 use lib.ListN.{length}
+use Rattle.text.specs.Text.{putOver}
+use Rattle.pixel.specs.Words.{wordsOf, wordedIn}
 use Rattle.rules.specs.Bytes.{writtenOver}
 use Rattle.rules.specs.Decode.{decoding}
 use Rattle.rules.specs.Encode.{encoding}
 use Rattle.rules.specs.Step.{State, Started, started, notStarted, Ran, going, ended, outputOf, starting, running}
 use Rattle.rules.specs.Record.{Recorded, recorded, notRecorded, recording, recordedOver, readRecord}
-use Rattle.rules.specs.Figures.{refusalFigures, answerFigures, encodeFigures}
+use Rattle.rules.specs.Figures.{refusalFigures, answerFigures, encodeFigures, wordedFigures}
 
 -- writing a record: the number and the record's length, or why it was not written
 abbrev pub recordedFigures : ℕ → Recorded → List ℕ
@@ -74,3 +76,8 @@ IsRun message steps bytes out next figures leftOut leftNext =
     (figures ≡ hostFigures message steps out next (readRecord bytes))
     × ((leftOut ≡ hostOut message steps out (readRecord bytes))
     × (leftNext ≡ hostNext message steps out next (readRecord bytes)))
+
+-- the words of a number, `told` being its figures
+abbrev pub IsText : ℕ → List ℕ → List ℕ → List ℕ → List ℕ → Type 0
+IsText number told out figures left =
+    (figures ≡ wordedFigures (wordedIn (wordsOf number told) (length out))) × (left ≡ putOver (wordsOf number told) out)

@@ -4,12 +4,14 @@ ghost use mathlib.Core.List.{_∷_, []};
 ghost use Rattle.header.specs.Header.{headerOf};
 ghost use Rattle.rules.specs.Figures.{refusalFigures, headerFigures};
 ghost use Rattle.resume.specs.State.{stateOf};
-ghost use Rattle.qoi.specs.Hosted.{IsDecode, IsEncode, IsRecord, IsStart, IsRun};
+ghost use Rattle.qoi.specs.Hosted.{IsDecode, IsEncode, IsRecord, IsStart, IsRun, IsText};
 use decode::Decoded;
 use encode::Encoded;
 use header::HeaderRead;
+use pixel::error;
 use pixel::error::Error;
 use pixel::error::FourFigures;
+use pixel::error::Worded;
 use resume::Decoder;
 use resume::StartAnswer;
 use resume::StepAnswer;
@@ -151,5 +153,21 @@ pub extern "C" fn pivotshade_run(
                 }
             }
         }
+    }
+}
+
+// A refusal in words, by its number and the figures told with it: how many bytes they are.
+#[no_mangle]
+pub extern "C" fn pivotshade_text(
+    number: u64,
+    told: &FourFigures,
+    out: &mut [u8],
+    figures: &mut FourFigures,
+) -> u64
+    ensures { λ r. ⌜ IsText number (now (told .entry)) (now (out .entry)) (r ∷ now (figures .exit)) (now (out .exit)) ⌝ }
+{
+    match error::text_of(number, *told, out) {
+        Worded::Refused(e) => refuse(e, figures),
+        Worded::Done(size) => answer(0, size as u64, 0, figures),
     }
 }

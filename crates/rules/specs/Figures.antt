@@ -2,6 +2,8 @@
 use mathlib.Core.List.{List, [], _∷_}
 use Prim.Native.Nat.{ℕ}
 use Rattle.pixel.specs.declared.error.Error.{Error}
+use Rattle.pixel.specs.declared.error.Worded.{Worded}
+use Rattle.pixel.specs.declared.error.Worded.the-variants as worded
 use Rattle.pixel.specs.Refusal.{numberOf, figuresOf}
 use Rattle.pixel.specs.Types.{channelsNumber, colorSpaceNumber}
 use Rattle.header.specs.declared.HeaderRead.{HeaderRead}
@@ -33,3 +35,8 @@ encodeFigures (notEncoded e) = refusalFigures e
 abbrev pub strictFigures : StrictAnswer → List ℕ
 strictFigures (accepted header chunks bytes) = 0 ∷ chunks ∷ bytes ∷ 0 ∷ 0 ∷ []
 strictFigures (rejected e) = refusalFigures e
+
+-- words: bytes written
+abbrev pub wordedFigures : Worded → List ℕ
+wordedFigures (worded.Done size) = 0 ∷ size ∷ 0 ∷ 0 ∷ 0 ∷ []
+wordedFigures (worded.Refused e) = refusalFigures e

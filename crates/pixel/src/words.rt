@@ -1,0 +1,66 @@
+// A refusal in words.
+ghost use mathlib.Core.Path.{_≡_};
+ghost use Rattle.text.specs.Text.{textOf, said};
+ghost use Rattle.pixel.specs.Words.{sentence, magicParts};
+use text::Text;
+
+// What is said of a number and its figures.
+pub fn of(number: u64, a: u64, b: u64, c: u64) -> Text
+    ensures { λ r. ⌜ textOf r ≡ said (sentence number a b c) ⌝ }
+{
+    let text = Text::empty();
+    if number == 1 {
+        return text.words(b"unexpected input buffer end while decoding");
+    }
+    if number == 2 {
+        return text.figure(b"invalid number of channels: ", a);
+    }
+    if number == 3 {
+        return text.figure(b"invalid color space: ", a)
+            .words(b" (expected 0 or 1)");
+    }
+    if number == 4 {
+        return magic(a);
+    }
+    if number == 5 {
+        return text.figure(b"invalid image dimensions: ", a)
+            .figure(b"x", b);
+    }
+    if number == 6 {
+        return text.figure(b"invalid image length: ", a)
+            .figure(b" bytes for ", b)
+            .figure(b"x", c);
+    }
+    if number == 7 {
+        return text.figure(b"output buffer size too small: ", a)
+            .figure(b" (required: ", b)
+            .words(b")");
+    }
+    if number == 8 {
+        return text.words(b"invalid padding (stream end marker mismatch)");
+    }
+    if number == 9 {
+        return text.words(b"invalid decoder state or record");
+    }
+    if number == 10 {
+        return text.words(b"invalid run (longer than the pixels left)");
+    }
+    if number == 11 {
+        return text.words(b"invalid length (bytes after the stream end marker)");
+    }
+    text.figure(b"unknown refusal: ", number)
+}
+
+// The four bytes that stood where the magic should, the first one first.
+fn magic(found: u64) -> Text
+    ensures { λ r. ⌜ textOf r ≡ said (magicParts found) ⌝ }
+{
+    let text = Text::empty();
+    let first = text.figure(
+        b"invalid magic: expected 1903126886, got [",
+        found / 16777216 % 256,
+    );
+    let second = first.figure(b", ", found / 65536 % 256);
+    let third = second.figure(b", ", found / 256 % 256);
+    third.figure(b", ", found % 256).words(b"]")
+}

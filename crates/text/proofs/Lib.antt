@@ -1,0 +1,2 @@
+-- Laws that the proofs of crate `text` share.
+pub mod Laws

@@ -1,0 +1,2 @@
+-- The definitions of crate `text`.
+pub mod Text
