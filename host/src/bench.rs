@@ -1,9 +1,9 @@
-// The command `bench`: decode timed against the Rust's, runs of some thousand steps against decode, and encode against the Rust's and qoi.h's, in
-// one process, by turns, the least of many times.
+// The command `bench`: decode timed against the Rust's, runs of some thousand steps against decode, encode against the Rust's and qoi.h's, and the
+// strict check against decode, in one process, by turns, the least of many times.
 //
 // All read the same input and write the same output: one buffer of exactly the length needed, lent to each in turn, so that length, alignment
-// and what the caches hold are the same for each; but qoi.h writes to memory of its own. Each decode reads the header, tests the output's length
-// and decodes; each encode tests pixels and output, writes the header and encodes.
+// and what the caches hold are the same for each; but qoi.h writes to memory of its own, and the strict check writes nothing. Each decode reads
+// the header, tests the output's length and decodes; each encode tests pixels and output, writes the header and encodes.
 use crate::answer::Answer;
 use crate::images;
 use crate::pictures::{self, Picture};
@@ -226,10 +226,44 @@ fn encode_table(samples: &[Sample]) {
     }
 }
 
-pub fn run(folder: &Path, is_encode_only: bool) -> ExitCode {
+/// The table of strict checks: a line for each message, beside its decode to its own channels, then the mean and the largest.
+fn strict_table(samples: &[Sample]) {
+    println!(
+        "{:24} {:>8} {:>8} {:>10} {:>10} {:>7}",
+        "message", "pixels", "channels", "strict", "decode", "ratio"
+    );
+    let mut ratios = Ratios::default();
+    for sample in samples {
+        let (name, picture, message) = (&sample.name, &sample.picture, &sample.message[..]);
+        let mut out = vec![0; picture.pixels.len()];
+        let call = |which: usize, out: &mut [u8]| match which {
+            0 => port::strict(message),
+            _ => port::decode(message, picture.channels as u64, out),
+        };
+        let times = race(2, call, &mut out, DECODED / pixels(picture));
+        let ratio = times[0] / times[1];
+        println!(
+            "{name:24} {:8} {:8} {:10.1} {:10.1} {ratio:7.3}",
+            pixels(picture),
+            picture.channels,
+            times[0] / 1e3,
+            times[1] / 1e3
+        );
+        ratios.push(ratio, name);
+    }
+    println!(
+        "geometric mean {:.3}, largest ratio {:.3}: {}",
+        geometric_mean(&ratios.all),
+        ratios.largest.0,
+        ratios.largest.1
+    );
+}
+
+/// Every table, or only that of encodes or that of strict checks.
+pub fn run(folder: &Path, only: Option<&str>) -> ExitCode {
     let samples = samples(folder);
     println!("The least of many times, in microseconds; a number after a name: the channels it was encoded with here.");
-    if !is_encode_only {
+    if only.is_none() {
         println!("decode against the Rust's:");
         decode_table(["ours", "Rust"], port::decode, oracle::decode, &samples);
         println!();
@@ -240,10 +274,17 @@ pub fn run(folder: &Path, is_encode_only: bool) -> ExitCode {
         decode_table(names, decode_in_slices, port::decode, &samples);
         println!();
     }
-    println!("encode against the Rust's and qoi.h's:");
-    if !cfg!(feature = "qoi_h") {
-        println!("no qoi.h at hand, which is Debian's libqoi-dev: it is not timed");
+    if only != Some("strict") {
+        println!("encode against the Rust's and qoi.h's:");
+        if !cfg!(feature = "qoi_h") {
+            println!("no qoi.h at hand, which is Debian's libqoi-dev: it is not timed");
+        }
+        encode_table(&samples);
+        println!();
     }
-    encode_table(&samples);
+    if only != Some("encode") {
+        println!("the strict check against decode to the header's own channels:");
+        strict_table(&samples);
+    }
     ExitCode::SUCCESS
 }

@@ -29,7 +29,7 @@ use std::process::ExitCode;
 
 fn usage() -> ExitCode {
     eprintln!(
-        "usage: host compare CASES SEED IMAGES | host peers FOLDER IMAGES | host bench IMAGES [encode]"
+        "usage: host compare CASES SEED IMAGES | host peers FOLDER IMAGES | host bench IMAGES [encode | strict]"
     );
     ExitCode::from(2)
 }
@@ -43,8 +43,10 @@ fn main() -> ExitCode {
             _ => usage(),
         },
         ["peers", folder, images] => peers::run(&PathBuf::from(folder), &PathBuf::from(images)),
-        ["bench", folder] => bench::run(&PathBuf::from(folder), false),
-        ["bench", folder, "encode"] => bench::run(&PathBuf::from(folder), true),
+        ["bench", folder] => bench::run(&PathBuf::from(folder), None),
+        ["bench", folder, only @ ("encode" | "strict")] => {
+            bench::run(&PathBuf::from(folder), Some(only))
+        }
         _ => usage(),
     }
 }

@@ -21,6 +21,7 @@ extern "C" {
         out_length: usize,
         figures: *mut [u64; 4],
     ) -> u64;
+    fn pivotshade_strict(message: *const u8, length: usize, figures: *mut [u64; 4]) -> u64;
     fn pivotshade_start(
         message: *const u8,
         length: usize,
@@ -90,6 +91,14 @@ pub fn encode(pixels: &[u8], width: u32, height: u32, colorspace: u64, out: &mut
             &mut figures,
         )
     };
+    Answer { number, figures }
+}
+
+/// Chunks and bytes.
+pub fn strict(message: &[u8]) -> Answer {
+    let mut figures = UNWRITTEN;
+    // the port reads message[..] alone and writes the four figures alone
+    let number = unsafe { pivotshade_strict(message.as_ptr(), message.len(), &mut figures) };
     Answer { number, figures }
 }
 

@@ -10,7 +10,8 @@ use Rattle.rules.specs.Decode.{decoding}
 use Rattle.rules.specs.Encode.{encoding}
 use Rattle.rules.specs.Step.{State, Started, started, notStarted, Ran, going, ended, outputOf, starting, running}
 use Rattle.rules.specs.Record.{Recorded, recorded, notRecorded, recording, recordedOver, readRecord}
-use Rattle.rules.specs.Figures.{refusalFigures, answerFigures, encodeFigures, wordedFigures}
+use Rattle.rules.specs.Strict.{strict}
+use Rattle.rules.specs.Figures.{refusalFigures, answerFigures, encodeFigures, strictFigures, wordedFigures}
 
 -- writing a record: the number and the record's length, or why it was not written
 abbrev pub recordedFigures : ℕ → Recorded → List ℕ
@@ -65,6 +66,10 @@ abbrev pub IsEncode : List ℕ → ℕ → ℕ → ℕ → List ℕ → List ℕ
 IsEncode picture width height colorspace out figures left =
     (figures ≡ encodeFigures (encoding picture width height colorspace (length out) .answer))
     × (left ≡ writtenOver (encoding picture width height colorspace (length out) .bytes) out)
+
+-- the strict check is lent no part
+abbrev pub IsStrict : List ℕ → List ℕ → Type 0
+IsStrict message figures = figures ≡ strictFigures (strict message)
 
 abbrev pub IsStart : List ℕ → ℕ → List ℕ → List ℕ → List ℕ → Type 0
 IsStart message wanted part figures left =

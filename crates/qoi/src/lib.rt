@@ -4,7 +4,7 @@ ghost use mathlib.Core.List.{_∷_, []};
 ghost use Rattle.header.specs.Header.{headerOf};
 ghost use Rattle.rules.specs.Figures.{refusalFigures, headerFigures};
 ghost use Rattle.resume.specs.State.{stateOf};
-ghost use Rattle.qoi.specs.Hosted.{IsDecode, IsEncode, IsRecord, IsStart, IsRun, IsText};
+ghost use Rattle.qoi.specs.Hosted.{IsDecode, IsEncode, IsStrict, IsRecord, IsStart, IsRun, IsText};
 use decode::Decoded;
 use encode::Encoded;
 use header::HeaderRead;
@@ -16,6 +16,7 @@ use resume::Decoder;
 use resume::StartAnswer;
 use resume::StepAnswer;
 use resume::Written;
+use strict::StrictAnswer;
 
 // A refusal's number, with its figures.
 fn refuse(e: Error, figures: &mut FourFigures) -> u64
@@ -96,6 +97,21 @@ pub extern "C" fn pivotshade_encode(
     match encode::encode(pixels, width, height, colorspace, out) {
         Encoded::Refused(e) => refuse(e, figures),
         Encoded::Done { size } => answer(0, size as u64, 0, figures),
+    }
+}
+
+// Chunks and bytes of a message that passes the strict check.
+#[no_mangle]
+pub extern "C" fn pivotshade_strict(message: &[u8], figures: &mut FourFigures) -> u64
+    ensures { λ r. ⌜ IsStrict (now (message .entry)) (r ∷ now (figures .exit)) ⌝ }
+{
+    match strict::strict(message) {
+        StrictAnswer::Refused(e) => refuse(e, figures),
+        StrictAnswer::Accepted {
+            header: _,
+            chunks,
+            bytes,
+        } => answer(0, chunks as u64, bytes as u64, figures),
     }
 }
 

@@ -1,0 +1,2 @@
+-- Laws that the proofs of crate `strict` share.
+pub mod Loop

@@ -1,0 +1,2 @@
+-- The definitions of crate `strict`.
+pub mod Checked
