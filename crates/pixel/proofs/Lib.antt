@@ -1,2 +1,3 @@
--- The laws of packed pixels, for the layers above to cite.
+-- The laws of packed pixels and of words, for the layers above to cite.
 pub mod PackedLaws
+pub mod WordsLaws

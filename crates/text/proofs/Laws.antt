@@ -7,9 +7,9 @@ use Prim.Native.Nat.{ℕ, zero, suc, _+_, _-_, _/_, _%_, _^_, _≤_, _<_}
 use native.Mathlib.Nat.{pow-suc, pow-le-pow-right, one-le-pow, mod-eq-of-lt, lt-of-not-le}
 use native.Mathlib.Numerals.{add-one}
 use native.Mathlib.Omega.{arith}
-use borrow.Author.Tests.{lt-ltb, le-ltb}
+use borrow.Author.Tests.{lt-ltb, le-ltb, ltb-false}
 use lib.Dec.{ltb}
-use lib.ListN.{length, take, drop, set, getD, length-take, length-append}
+use lib.ListN.{length, take, drop, set, getD, length-take, length-drop, length-append}
 use lib.Seq.{take-all, take-length, take-append-le, take-suc-set, drop-cons, append-snoc}
 use Rattle.io.specs.Digits.{glyph, digits, Fewest}
 use Rattle.text.specs.declared.Text.{Text}
@@ -124,3 +124,16 @@ pub spoken-whole :
     (parts : List Part) (t t′ : Text) → most parts ≤ 160 → textOf t ≡ [] → Spoken parts t t′ → textOf t′ ≡ said parts
 spoken-whole parts t t′ room none steps =
     spoken parts t t′ [] none steps ∙ take-all 160 (said parts) (omega (arith, said-short [] parts))
+
+-- an output keeps its length
+pub put-length : (words out : List ℕ) → length (putOver words out) ≡ length out
+unfolding putOver
+put-length words out = go (ltb (length out) (length words)) refl
+  where
+    go :
+        (short : Bool) → ltb (length out) (length words) ≡ short
+        → length (cond short out (words ++ drop (length words) out)) ≡ length out
+    go true e = refl
+    go false e =
+        rw (length-append words (drop (length words) out), length-drop (length words) out)
+        (omega (arith, ltb-false (length out) (length words) e))

@@ -1,0 +1,31 @@
+-- The laws of words, for the layers above to cite.
+-- Assumes nothing.
+use mathlib.Core.Bool.{Bool, true, false, cond}
+use mathlib.Core.List.{List}
+use mathlib.Core.Path.{_≡_, refl, sym, _∙_, subst}
+use Prim.Native.Nat.{ℕ, _≤_}
+use borrow.Author.Tests.{ltb-false}
+use lib.Dec.{ltb}
+use lib.ListN.{length}
+use Rattle.pixel.specs.declared.error.Worded.{Worded}
+use Rattle.pixel.specs.declared.error.Worded.the-variants as worded
+use Rattle.pixel.specs.declared.error.Error.the-variants.{OutputBufferTooSmall}
+use Rattle.pixel.specs.Words.{wordedIn}
+
+abbrev Within : ℕ → Worded → Type 0
+Within room (worded.Done size) = size ≤ room
+Within room (worded.Refused e) = Unit
+
+worded-within : (words : List ℕ) (room : ℕ) → Within room (wordedIn words room)
+unfolding wordedIn
+worded-within words room = go (ltb room (length words)) refl
+  where
+    go :
+        (short : Bool) → ltb room (length words) ≡ short
+        → Within room (cond short (worded.Refused (OutputBufferTooSmall room (length words))) (worded.Done (length words)))
+    go true e = tt
+    go false e = ltb-false room (length words) e
+
+-- words that were written lie within the room
+pub done-within : (words : List ℕ) (room size : ℕ) (r : Worded) → r ≡ wordedIn words room → r ≡ worded.Done size → size ≤ room
+done-within words room size r is done = subst (Within room) (sym is ∙ done) (worded-within words room)

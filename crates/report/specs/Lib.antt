@@ -1,0 +1,2 @@
+-- The definitions of crate `report`.
+pub mod Line
