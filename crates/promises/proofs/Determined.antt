@@ -4,9 +4,12 @@
 -- Assumes nothing.
 use mathlib.Core.Path.{_≡_, refl, sym, _∙_}
 use denote.Ref.{ptr, now}
+use Rattle.text.proofs.Text as Text
+use Rattle.text.specs.Text.{textOf}
 use Rattle.pixel.proofs as pixel
 use Rattle.pixel.proofs.Pixel as Pixel
 use Rattle.pixel.proofs.packed as packed
+use Rattle.pixel.proofs.error as error
 use Rattle.pixel.proofs.error.Error as Error
 use Rattle.pixel.proofs.types.Channels as Channels
 use Rattle.pixel.proofs.types.ColorSpace as ColorSpace
@@ -19,10 +22,27 @@ use Rattle.resume.proofs.Decoder as Decoder
 use Rattle.decode.proofs as decode
 use Rattle.encode.proofs as encode
 use Rattle.encode.proofs.Encoder as Encoder
+use Rattle.strict.proofs as strict
+use Rattle.report.proofs as report
 use Rattle.qoi.proofs as qoi
 use Rattle.resume.specs.State.{state-determined}
 use Rattle.promises.specs.Determined.{Determined, DeterminedBy}
-use Rattle.promises.proofs.OneToOne.{unpacked-determined, found-determined, walk-determined, started-determined, ran-determined, answer-determined, encoded-determined, returned-same, figures-same}
+use Rattle.promises.proofs.OneToOne.{unpacked-determined, found-determined, walk-determined, started-determined, ran-determined, answer-determined, encoded-determined, verdict-determined, returned-same, figures-same}
+
+-- ---- crate `text`: of a text, what it says
+pub text·Text·empty : DeterminedBy Text.empty.Kinds.ps Text.empty.Kinds.r (λ κs z z′. textOf z ≡ textOf z′) Text.empty.Reads.Post
+text·Text·empty κs a z z′ e e′ ok ok′ p q = (p ∙ sym q, refl)
+
+pub text·Text·words : DeterminedBy Text.words.Kinds.ps Text.words.Kinds.r (λ κs z z′. textOf z ≡ textOf z′) Text.words.Reads.Post
+text·Text·words κs a z z′ e e′ ok ok′ p q = (p ∙ sym q, refl)
+
+pub text·Text·figure : DeterminedBy Text.figure.Kinds.ps Text.figure.Kinds.r (λ κs z z′. textOf z ≡ textOf z′) Text.figure.Reads.Post
+text·Text·figure κs a z z′ e e′ ok ok′ p q = (p ∙ sym q, refl)
+
+pub text·Text·put : Determined Text.put.Kinds.ps Text.put.Kinds.r Text.put.Reads.Post
+text·Text·put κs a z z′ e e′ ok ok′ p q =
+    let out = p .1 ∙ sym (q .1) in
+    (p .0 ∙ sym (q .0), λ i. (tt, (out i, tt)))
 
 -- ---- crate `pixel`
 pub pixel·Pixel·new : Determined Pixel.new.Kinds.ps Pixel.new.Kinds.r Pixel.new.Reads.Post
@@ -93,6 +113,21 @@ pixel·error·Error·number κs a z z′ e e′ ok ok′ p q = (p ∙ sym q, ref
 
 pub pixel·error·Error·figures : Determined Error.figures.Kinds.ps Error.figures.Kinds.r Error.figures.Reads.Post
 pixel·error·Error·figures κs a z z′ e e′ ok ok′ p q = (p ∙ sym q, refl)
+
+pub pixel·error·Error·text : Determined Error.text.Kinds.ps Error.text.Kinds.r Error.text.Reads.Post
+pixel·error·Error·text κs a z z′ e e′ ok ok′ p q =
+    let out = p .1 ∙ sym (q .1) in
+    (p .0 ∙ sym (q .0), λ i. (tt, (out i, tt)))
+
+pub pixel·error·text-of : Determined error.text_of.Kinds.ps error.text_of.Kinds.r error.text_of.Reads.Post
+pixel·error·text-of κs a z z′ e e′ ok ok′ p q =
+    let out = p .1 ∙ sym (q .1) in
+    (p .0 ∙ sym (q .0), λ i. (tt, (tt, (out i, tt))))
+
+pub pixel·error·put-text : Determined error.put_text.Kinds.ps error.put_text.Kinds.r error.put_text.Reads.Post
+pixel·error·put-text κs a z z′ e e′ ok ok′ p q =
+    let out = p .1 ∙ sym (q .1) in
+    (p .0 ∙ sym (q .0), λ i. (tt, (out i, tt)))
 
 pub pixel·types·Channels·default : Determined Channels.default.Kinds.ps Channels.default.Kinds.r Channels.default.Reads.Post
 pixel·types·Channels·default κs a z z′ e e′ ok ok′ p q = (p ∙ sym q, refl)
@@ -289,6 +324,19 @@ encode·encode-to-buf κs a z z′ e e′ ok ok′ p q =
     let out = p .1 ∙ sym (q .1) in
     (encoded-determined z z′ (p .0 ∙ sym (q .0)), λ i. (out i, (tt, (tt, (tt, tt)))))
 
+-- ---- crate `strict`
+pub strict·strict : Determined strict.strict.Kinds.ps strict.strict.Kinds.r strict.strict.Reads.Post
+strict·strict κs a z z′ e e′ ok ok′ p q = (verdict-determined z z′ (p ∙ sym q), refl)
+
+-- ---- crate `report`
+pub report·line : Determined report.line.Kinds.ps report.line.Kinds.r report.line.Reads.Post
+report·line κs a z z′ e e′ ok ok′ p q =
+    let out = p .1 ∙ sym (q .1) in
+    (p .0 ∙ sym (q .0), λ i. (tt, (out i, tt)))
+
+pub report·print-line : Determined report.print_line.Kinds.ps report.print_line.Kinds.r report.print_line.Reads.Post
+report·print-line κs a z z′ e e′ ok ok′ p q = (refl, refl)
+
 -- ---- crate `qoi`, for hosts
 pub qoi·pivotshade-header : Determined qoi.pivotshade_header.Kinds.ps qoi.pivotshade_header.Kinds.r qoi.pivotshade_header.Reads.Post
 qoi·pivotshade-header κs a z z′ e e′ ok ok′ p q =
@@ -307,6 +355,11 @@ qoi·pivotshade-encode κs a z z′ e e′ ok ok′ p q =
     let out = p .1 ∙ sym (q .1) in
     (returned-same same, λ i. (tt, (tt, (tt, (tt, (out i, (figures-same same i, tt)))))))
 
+pub qoi·pivotshade-strict : Determined qoi.pivotshade_strict.Kinds.ps qoi.pivotshade_strict.Kinds.r qoi.pivotshade_strict.Reads.Post
+qoi·pivotshade-strict κs a z z′ e e′ ok ok′ p q =
+    let same = p ∙ sym q in
+    (returned-same same, λ i. (tt, (figures-same same i, tt)))
+
 pub qoi·pivotshade-start : Determined qoi.pivotshade_start.Kinds.ps qoi.pivotshade_start.Kinds.r qoi.pivotshade_start.Reads.Post
 qoi·pivotshade-start κs a z z′ e e′ ok ok′ p q =
     let same = p .0 ∙ sym (q .0) in
@@ -319,3 +372,9 @@ qoi·pivotshade-run κs a z z′ e e′ ok ok′ p q =
     let out = p .1 .0 ∙ sym (q .1 .0) in
     let next = p .1 .1 ∙ sym (q .1 .1) in
     (returned-same same, λ i. (tt, (tt, (out i, (tt, (next i, (figures-same same i, tt)))))))
+
+pub qoi·pivotshade-text : Determined qoi.pivotshade_text.Kinds.ps qoi.pivotshade_text.Kinds.r qoi.pivotshade_text.Reads.Post
+qoi·pivotshade-text κs a z z′ e e′ ok ok′ p q =
+    let same = p .0 ∙ sym (q .0) in
+    let out = p .1 ∙ sym (q .1) in
+    (returned-same same, λ i. (tt, (tt, (out i, (figures-same same i, tt)))))

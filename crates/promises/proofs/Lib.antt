@@ -2,5 +2,6 @@
 pub mod Hosts
 pub mod Pictures
 pub mod Stores
+pub mod Strict
 pub mod OneToOne
 pub mod Determined

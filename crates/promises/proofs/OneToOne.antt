@@ -14,6 +14,8 @@ use Rattle.rules.specs.Reading as rules
 use Rattle.rules.specs.Chunk.{INDEX, DIFF, LUMA, RUN, RGB, RGBA, Stuck, cut, chunk}
 use Rattle.rules.specs.Chunk as table
 use Rattle.rules.specs.Step.{State, Ran, going, ended, outputOf}
+use Rattle.rules.specs.Strict.{accepted, rejected}
+use Rattle.rules.specs.Strict as strict
 use Rattle.chunk.specs.declared.Colour.{Colour}
 use Rattle.chunk.specs.declared.Colour.the-variants as colour
 use Rattle.chunk.specs.declared.Found.{Found}
@@ -34,6 +36,9 @@ use Rattle.decode.specs.Decoded.{answerOf}
 use Rattle.encode.specs.declared.Encoded.{Encoded}
 use Rattle.encode.specs.declared.Encoded.the-variants as encoded
 use Rattle.encode.specs.Encoded.{answerOf as encodedOf}
+use Rattle.strict.specs.declared.StrictAnswer.{StrictAnswer}
+use Rattle.strict.specs.declared.StrictAnswer.the-variants as answer
+use Rattle.strict.specs.Checked.{verdictOf}
 
 -- a 32-bit number is its four bytes
 packed-again : (p : ℕ) → p < 2 ^ 32 → packedOf (red (unpacked p)) (green (unpacked p)) (blue (unpacked p)) (alpha (unpacked p)) ≡ p
@@ -145,6 +150,19 @@ encoded-determined (encoded.Done n) (encoded.Done k) same = cc
 encoded-determined (encoded.Done n) (encoded.Refused e) same = let z : _≡_ {A = ℕ} 0 1 = cc in absurd (omega arith)
 encoded-determined (encoded.Refused e) (encoded.Done n) same = let z : _≡_ {A = ℕ} 0 1 = cc in absurd (omega arith)
 encoded-determined (encoded.Refused e) (encoded.Refused x) same = cc
+
+-- the strict check's answer
+verdictAs : strict.StrictAnswer → StrictAnswer
+verdictAs (accepted header chunks bytes) = answer.Accepted header chunks bytes
+verdictAs (rejected e) = answer.Refused e
+
+verdict-again : (s : StrictAnswer) → verdictAs (verdictOf s) ≡ s
+unfolding verdictAs
+verdict-again (answer.Accepted header chunks bytes) = refl
+verdict-again (answer.Refused e) = refl
+
+pub verdict-determined : (a b : StrictAnswer) → verdictOf a ≡ verdictOf b → a ≡ b
+verdict-determined a b same = sym (verdict-again a) ∙ ap verdictAs same ∙ verdict-again b
 
 -- the number that is returned and the figures beside it
 pub returned-same : {n k : ℕ} {f g : List ℕ} → n ∷ f ≡ k ∷ g → n ≡ k

@@ -67,8 +67,17 @@ read-back-brings {picture} {stream} opens back =
     }
 
 -- the bytes written are the first of the output
-front : (bytes before after : List ℕ) (size : ℕ) → after ≡ writtenOver bytes before → size ≡ length bytes → take size after ≡ bytes
+pub front : (bytes before after : List ℕ) (size : ℕ) → after ≡ writtenOver bytes before → size ≡ length bytes → take size after ≡ bytes
 front bytes before after size is all = rw (is) (take-at bytes (drop (0 + length bytes) before) size (sym all))
+
+-- the figures of an accepted answer are no refusal's
+pub encode-said : (answer : EncodeAnswer) (size : ℕ) → encodeFigures answer ≡ says 0 size → answer ≡ encoded size
+encode-said (encoded n) size said = cc
+encode-said (notEncoded e) size said = let z : numberOf e ≡ 0 = cc in absurd (omega (arith, number-small e .0))
+
+pub decode-said : (answer : Answer) (size used : ℕ) → answerFigures answer ≡ saysDone size used → answer ≡ done size used
+decode-said (done n k) size used said = cc
+decode-said (refused e) size used said = let z : numberOf e ≡ 0 = cc in absurd (omega (arith, number-small e .0))
 
 -- the header of what an encode wrote
 opened :
@@ -98,11 +107,7 @@ module _ (picture : List ℕ) (width height : ℕ) where
   -- and for pivotshade_encode
   pub host-encode-reads-back : HostReadsBack picture width height
   host-encode-reads-back bytes colorspace before figures left size allowed is =
-      brings bytes colorspace before left size (accepted (encoding picture width height colorspace (length before) .answer) (sym (allowed .0) ∙ is)) (allowed .1)
-    where
-      accepted : (answer : EncodeAnswer) → encodeFigures answer ≡ says 0 size → answer ≡ encoded size
-      accepted (encoded n) said = cc
-      accepted (notEncoded e) said = let z : numberOf e ≡ 0 = cc in absurd (omega (arith, number-small e .0))
+      brings bytes colorspace before left size (encode-said _ size (sym (allowed .0) ∙ is)) (allowed .1)
 
 -- an encode of a picture of a header is done
 module _ (header : Header) (picture : List ℕ) (of : PictureOf header picture) where
@@ -123,12 +128,8 @@ decode-call-is-document m header before r after size used reads filled allowed i
 -- and for pivotshade_decode
 pub host-decode-is-document : (m : List ℕ) → HostIsDocument m
 host-decode-is-document m header before figures left size used reads filled allowed is =
-    let same = document-agrees m header (length before) size used reads (accepted _ (sym (allowed .0) ∙ is)) filled in
+    let same = document-agrees m header (length before) size used reads (decode-said _ size used (sym (allowed .0) ∙ is)) filled in
     (allowed .0 ∙ ap (λ (x : Reading). answerFigures (x .answer)) (sym same), allowed .1 ∙ ap (λ (x : Reading). writtenOver (x .bytes) before) (sym same))
-  where
-    accepted : (answer : Answer) → answerFigures answer ≡ saysDone size used → answer ≡ done size used
-    accepted (done n k) said = cc
-    accepted (refused e) said = let z : numberOf e ≡ 0 = cc in absurd (omega (arith, number-small e .0))
 
 -- `Encodes`, `Decodes`, `IsEncode` and `IsDecode` are the contracts, as the checker reads them off the sources
 pub encode-contract :

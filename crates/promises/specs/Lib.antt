@@ -3,3 +3,4 @@ pub mod Determined
 pub mod Hosts
 pub mod Pictures
 pub mod Stores
+pub mod Strict

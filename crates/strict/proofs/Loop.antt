@@ -66,7 +66,8 @@ module _ (header : Header) (message : List ℕ) where
         same = rw (reads, ← counted) (ap (λ (n : ℕ). strictFrom header message n (tallyAt 14 pixels 0)) (omega arith));
       }
 
-module _ {header : Header} {message : List ℕ} {pixels left at chunks : ℕ} (h : Head header message pixels left at chunks) where
+module _ {header : Header} {message : List ℕ} {pixels left at chunks : ℕ}
+    (h : Head header message pixels left at chunks) where
   abbrev here : Tally
   here = tallyAt at left chunks
 
@@ -74,7 +75,8 @@ module _ {header : Header} {message : List ℕ} {pixels left at chunks : ℕ} (h
   sound k f = sound-of (rw f at (sound-found (decoderReadsRgba (channelsNumber (header .channels))) (drop at message)))
 
   -- a chunk lies within the message
-  pub within : (r : Found) (k : Chunk) → foundOf r ≡ chunk k → Holds header message at r → at + sizeOf k ≤ length message
+  pub within :
+      (r : Found) (k : Chunk) → foundOf r ≡ chunk k → Holds header message at r → at + sizeOf k ≤ length message
   within r k is f = omega (arith, h .inside, simp length-drop at (sound k (f ∙ is) .fits))
 
   -- a run counts a pixel
@@ -95,7 +97,8 @@ module _ {header : Header} {message : List ℕ} {pixels left at chunks : ℕ} (h
     -- one move of the check
     moved :
         (r : Found) → Holds header message at r
-        → strict message ≡ checkOn (strictFrom header message (pixels - (chunks + 1))) (strictBy header message here (foundOf r))
+        → strict message
+        ≡ checkOn (strictFrom header message (pixels - (chunks + 1))) (strictBy header message here (foundOf r))
     unfolding strictFrom strictMove
     moved r f =
         let more : pixels - chunks ≡ suc (pixels - (chunks + 1)) = omega (arith, h .ahead) in
@@ -139,7 +142,9 @@ module _ {header : Header} {message : List ℕ} {pixels left at chunks : ℕ} (h
           same = moved r f ∙ rw (is, counted, le-leb (timesOf k) left fits);
         }
 
-    pub after-index : (slot : ℕ) → Holds header message at (found.Index slot) → Head header message pixels (left - 1) (at + 1) (chunks + 1)
+    pub after-index :
+        (slot : ℕ) → Holds header message at (found.Index slot)
+        → Head header message pixels (left - 1) (at + 1) (chunks + 1)
     unfolding strictBy timesOf sizeOf
     after-index slot f = advance (found.Index slot) f (INDEX slot) refl refl turn
 

@@ -89,7 +89,8 @@ fn is_too_long(times: u8, left: usize) -> bool
 // The end: 1 and 8 as a decode, then 11 where something follows the marker.
 fn close(message: &[u8], header: Header, chunks: usize, end: usize) -> StrictAnswer
     requires { ⌜ end ≤ length (now message) ⌝ }
-    ensures { λ r. ⌜ verdictOf r ≡ strictClosed header (now (message .entry)) chunks (closing 0 (now (message .entry)) end) ⌝ }
+    ensures { λ r. ⌜ verdictOf r
+        ≡ strictClosed header (now (message .entry)) chunks (closing 0 (now (message .entry)) end) ⌝ }
 {
     match chunk::read_end(&message[end..]) {
         Ending::Cut => StrictAnswer::Refused(Error::UnexpectedBufferEnd),

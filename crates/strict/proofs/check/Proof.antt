@@ -1,9 +1,11 @@
 -- `strict::check` meets its contract: at the loop's head the check from here is the check of the message.
 -- Assumes nothing.
 use mathlib.Core.Path.{_≡_, refl, sym, _∙_}
+use Prim.Native.Nat.{_<_}
 use native.Mathlib.Omega.{arith}
 use borrow.Author.Needs.{needs}
 use borrow.Author.Tests.{ltb-true, ltb-false}
+use Rattle.rules.specs.Chunk.{sizeOf}
 use Rattle.chunk.specs.declared.Found.{Found}
 use Rattle.chunk.specs.declared.Found.the-variants as found
 use Rattle.chunk.specs.Found.{chunkOf}
@@ -34,7 +36,8 @@ returns : tie.Need-returns Inv-loop μ-loop
 returns c =
     let read = c .before .before in
     let l = read .before .before .before in
-    sym (ends-cut (l .loop .inv) (read .before .before .loop-test .taken) (here read found.Cut (c .enum-told .given .1)))
+    let turn = read .before .before .loop-test .taken in
+    sym (ends-cut (l .loop .inv) turn (here read found.Cut (c .enum-told .given .1)))
 
 loop-again : tie.Need-loop-again Inv-loop μ-loop
 loop-again c =
@@ -58,7 +61,8 @@ loop-less-2 c =
     let told = c .before .before .before in
     let read = told .before .before in
     let l = read .before .before .before in
-    omega (arith, run-some (l .loop .inv) _ (here read _ (told .times .given .1)), read .before .before .loop-test .taken)
+    let some = run-some (l .loop .inv) _ (here read _ (told .times .given .1)) in
+    omega (arith, some, read .before .before .loop-test .taken)
 
 loop-again-2 : tie.Need-loop-again-2 Inv-loop μ-loop
 loop-again-2 c =
@@ -73,8 +77,9 @@ returns-3 c =
     let told = c .before .before .before in
     let read = told .before .before in
     let l = read .before .before .before in
+    let stands = here read _ (told .colour .given .1) in
     let none = sym (c .before .size .ensures) ∙ c .if2 .taken in
-    sym (ends-stuck (l .loop .inv) (read .before .before .loop-test .taken) (told .colour .given .0 .0) (here read _ (told .colour .given .1)) none)
+    sym (ends-stuck (l .loop .inv) (read .before .before .loop-test .taken) (told .colour .given .0 .0) stands none)
 
 add-at-3 : tie.Need-add-at-3 Inv-loop μ-loop
 add-at-3 c =
@@ -82,7 +87,8 @@ add-at-3 c =
     let read = told .before .before in
     let l = read .before .before .before in
     let colour = told .colour .given .0 .0 in
-    let inside = within (l .loop .inv) (found.Colour colour) (chunkOf colour) refl (here read _ (told .colour .given .1)) in
+    let stands = here read _ (told .colour .given .1) in
+    let inside = within (l .loop .inv) (found.Colour colour) (chunkOf colour) refl stands in
     record { fits = omega (arith, c .before .size .ensures, inside) }
 
 loop-again-3 : tie.Need-loop-again-3 Inv-loop μ-loop
@@ -90,9 +96,11 @@ loop-again-3 c =
     let told = c .before .before .before in
     let read = told .before .before in
     let l = read .before .before .before in
+    let colour = told .colour .given .0 .0 in
+    let stands = here read _ (told .colour .given .1) in
     let size = c .before .size .ensures in
-    rw size
-    (after-colour (l .loop .inv) (read .before .before .loop-test .taken) (told .colour .given .0 .0) (here read _ (told .colour .given .1)) (rw (← size) (omega (arith, c .if2 .left))))
+    let some : 0 < sizeOf (chunkOf colour) = rw (← size) (omega (arith, c .if2 .left)) in
+    rw size (after-colour (l .loop .inv) (read .before .before .loop-test .taken) colour stands some)
 
 close-requires : tie.Need-close-requires Inv-loop μ-loop
 close-requires c κs = c .before .loop .inv .inside

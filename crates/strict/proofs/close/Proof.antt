@@ -18,7 +18,8 @@ use Rattle.strict.proofs.close.Tie as tie
 
 -- the marker test by what the reader of the end told
 by :
-    (message : List ℕ) (end : ℕ) (r r′ : Ending) → r ≡ r′ → r ≡ endingAt (take (length message - end) (drop end message))
+    (message : List ℕ) (end : ℕ) (r r′ : Ending) → r ≡ r′
+    → r ≡ endingAt (take (length message - end) (drop end message))
     → closing 0 message end ≡ closedBy 0 end r′
 by message end r r′ told e = rw (closing-by 0 message end, ← whole-tail message end, ← e, told)
 
