@@ -3,14 +3,26 @@
 use mathlib.Core.Bool.{Bool, true, false, cond}
 use mathlib.Core.List.{List}
 use mathlib.Core.Path.{_≡_, refl, sym, _∙_, subst}
-use Prim.Native.Nat.{ℕ, _≤_}
-use borrow.Author.Tests.{ltb-false}
+use Prim.Native.Nat.{ℕ, _≤_, _<_}
+use borrow.Author.Tests.{lt-ltb, le-ltb, ltb-false}
 use lib.Dec.{ltb}
 use lib.ListN.{length}
 use Rattle.pixel.specs.declared.error.Worded.{Worded}
 use Rattle.pixel.specs.declared.error.Worded.the-variants as worded
 use Rattle.pixel.specs.declared.error.Error.the-variants.{OutputBufferTooSmall}
 use Rattle.pixel.specs.Words.{wordedIn}
+
+-- no room for the words
+pub too-long :
+    (words : List ℕ) (room : ℕ) → room < length words
+    → wordedIn words room ≡ worded.Refused (OutputBufferTooSmall room (length words))
+unfolding wordedIn
+too-long words room short = rw (lt-ltb room (length words) short)
+
+-- room for them
+pub long-enough : (words : List ℕ) (room : ℕ) → length words ≤ room → wordedIn words room ≡ worded.Done (length words)
+unfolding wordedIn
+long-enough words room fits = rw (le-ltb room (length words) fits)
 
 abbrev Within : ℕ → Worded → Type 0
 Within room (worded.Done size) = size ≤ room
