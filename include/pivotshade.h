@@ -28,6 +28,17 @@ uint64_t pivotshade_decode(const uint8_t *msg, size_t len, uint64_t wanted, uint
 uint64_t pivotshade_encode(const uint8_t *px, size_t len, uint32_t width, uint32_t height, uint64_t colorspace, uint8_t *out, size_t out_len,
                            uint64_t figures[4]);
 
+/* The strict check, which writes nothing but the figures: accepts what pivotshade_decode accepts with no run past the image and nothing after
+   the marker. Chunks, bytes (all of len). Refused in this order: the header's; at each chunk 1, 8, 10; at the end 1, 8, 11. What it accepts
+   pivotshade_decode accepts to 3 and to 4 wanted channels. */
+uint64_t pivotshade_strict(const uint8_t *msg, size_t len, uint64_t figures[4]);
+
+/* A refusal in words, in ASCII with no 0 byte at their end: `number` is what a call returned, `figures` what it filled. 0: the words stand at the
+   front of out, and answer has their length. 7 {out_len, required}: nothing is written. A number that is no refusal has words too. With
+   PIVOTSHADE_TEXT_MAX bytes 7 never comes. */
+#define PIVOTSHADE_TEXT_MAX 160
+uint64_t pivotshade_text(uint64_t number, const uint64_t figures[4], uint8_t *out, size_t out_len, uint64_t answer[4]);
+
 /* Starts a decode that can be taken over, and writes its record (at most PIVOTSHADE_RECORD_MAX bytes): the record's length. After a refusal
    record is as it was. 7 is the record's: with PIVOTSHADE_RECORD_MAX bytes it never comes. */
 #define PIVOTSHADE_RECORD_MAX 290

@@ -5,12 +5,13 @@ use mathlib.Core.List.{List}
 use mathlib.Core.Path.{_≡_, refl, sym, _∙_, subst}
 use Prim.Native.Nat.{ℕ, _≤_, _<_}
 use borrow.Author.Tests.{lt-ltb, le-ltb, ltb-false}
-use lib.Dec.{ltb}
-use lib.ListN.{length}
+use lib.Dec.{ltb, eqb, lit≤}
+use lib.ListN.{length, getD}
+use Rattle.text.proofs.Laws.{said-fits, either-fits}
 use Rattle.pixel.specs.declared.error.Worded.{Worded}
 use Rattle.pixel.specs.declared.error.Worded.the-variants as worded
 use Rattle.pixel.specs.declared.error.Error.the-variants.{OutputBufferTooSmall}
-use Rattle.pixel.specs.Words.{wordedIn}
+use Rattle.pixel.specs.Words.{sentence, wordsOf, wordedIn}
 
 -- no room for the words
 pub too-long :
@@ -41,3 +42,20 @@ worded-within words room = go (ltb room (length words)) refl
 -- words that were written lie within the room
 pub done-within : (words : List ℕ) (room size : ℕ) (r : Worded) → r ≡ wordedIn words room → r ≡ worded.Done size → size ≤ room
 done-within words room size r is done = subst (Within room) (sym is ∙ done) (worded-within words room)
+
+-- no words are longer than 160 bytes
+pub words-short : (number : ℕ) (figures : List ℕ) → length (wordsOf number figures) ≤ 160
+unfolding sentence
+words-short number figures =
+    said-fits (sentence number (getD figures 0 0) (getD figures 1 0) (getD figures 2 0))
+    (either-fits (eqb number 1) _ _ (lit≤ tt)
+    (either-fits (eqb number 2) _ _ (lit≤ tt)
+    (either-fits (eqb number 3) _ _ (lit≤ tt)
+    (either-fits (eqb number 4) _ _ (lit≤ tt)
+    (either-fits (eqb number 5) _ _ (lit≤ tt)
+    (either-fits (eqb number 6) _ _ (lit≤ tt)
+    (either-fits (eqb number 7) _ _ (lit≤ tt)
+    (either-fits (eqb number 8) _ _ (lit≤ tt)
+    (either-fits (eqb number 9) _ _ (lit≤ tt)
+    (either-fits (eqb number 10) _ _ (lit≤ tt)
+    (either-fits (eqb number 11) _ _ (lit≤ tt) (lit≤ tt))))))))))))

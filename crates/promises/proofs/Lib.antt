@@ -3,5 +3,6 @@ pub mod Hosts
 pub mod Pictures
 pub mod Stores
 pub mod Strict
+pub mod Words
 pub mod OneToOne
 pub mod Determined

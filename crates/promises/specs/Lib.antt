@@ -4,3 +4,4 @@ pub mod Hosts
 pub mod Pictures
 pub mod Stores
 pub mod Strict
+pub mod Words

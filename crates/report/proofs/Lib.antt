@@ -1,1 +1,2 @@
--- Laws that the proofs of crate `report` share.
+-- Laws of the line, for the layers above to cite.
+pub mod LineLaws

@@ -30,5 +30,8 @@ verdictParts (accepted header chunks bytes) = okParts header chunks bytes
 verdictParts (rejected e) = refusedParts (numberOf e)
 
 -- or `too long` above 65,536 bytes
-unfoldable pub lineOf : List ℕ → List ℕ
-lineOf input = said (cond (ltb 65536 (length input)) (say "too long\n" ∷ []) (verdictParts (strict input)))
+unfoldable pub lineParts : List ℕ → List Part
+lineParts input = cond (ltb 65536 (length input)) (say "too long\n" ∷ []) (verdictParts (strict input))
+
+abbrev pub lineOf : List ℕ → List ℕ
+lineOf input = said (lineParts input)

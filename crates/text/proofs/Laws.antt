@@ -27,12 +27,16 @@ as-long zero bytes = refl
 as-long (suc len) [] = refl
 as-long (suc len) (x ∷ bytes) = ap (λ (r : List ℕ). x ∷ r) (as-long len bytes)
 
+-- an output that has room holds the words, then what it held after them
+pub put-room : (words out : List ℕ) → length words ≤ length out → putOver words out ≡ words ++ drop (length words) out
+unfolding putOver
+put-room words out fits = rw (le-ltb (length out) (length words) fits)
+
 -- a copy to the front of an output that has room
 pub placed :
     (words out : List ℕ) → length words ≤ length out
     → take (length words) words ++ drop (length words) out ≡ putOver words out
-unfolding putOver
-placed words out fits = rw (take-length words, le-ltb (length out) (length words) fits)
+placed words out fits = rw (take-length words, put-room words out fits)
 
 module _ (bytes : List ℕ) (len : ℕ) (room : length bytes ≡ 160) where
   -- nothing more to add
@@ -101,6 +105,15 @@ said-short before (say words ∷ parts) =
 said-short before (figure words n ∷ parts) =
     omega (arith, decimal-short 20 n, length-append before (ascii words ++ decimal n), length-append (ascii words) (decimal n), said-short (before ++ (ascii words ++ decimal n)) parts)
 
+-- a sentence whose parts have at most 160 bytes fits a text
+pub said-fits : (parts : List Part) → most parts ≤ 160 → length (said parts) ≤ 160
+said-fits parts room = omega (arith, said-short [] parts)
+
+-- of two sentences that fit, whichever is said
+pub either-fits : (first : Bool) (a b : List Part) → most a ≤ 160 → most b ≤ 160 → most (cond first a b) ≤ 160
+either-fits true a b fits-a fits-b = fits-a
+either-fits false a b fits-a fits-b = fits-b
+
 -- what a text says that grew by more bytes
 pub grown :
     (t t′ : Text) (before more : List ℕ) → textOf t ≡ clipped before → textOf t′ ≡ clipped (textOf t ++ more)
@@ -123,7 +136,7 @@ spoken (part ∷ parts) t t′ before so (next, step, rest) =
 pub spoken-whole :
     (parts : List Part) (t t′ : Text) → most parts ≤ 160 → textOf t ≡ [] → Spoken parts t t′ → textOf t′ ≡ said parts
 spoken-whole parts t t′ room none steps =
-    spoken parts t t′ [] none steps ∙ take-all 160 (said parts) (omega (arith, said-short [] parts))
+    spoken parts t t′ [] none steps ∙ take-all 160 (said parts) (said-fits parts room)
 
 -- an output keeps its length
 pub put-length : (words out : List ℕ) → length (putOver words out) ≡ length out
