@@ -1,15 +1,15 @@
-// The kinds of cases: which messages, wanted channels and outputs the port and the Rust are called with.
+// The kinds of cases, and of decode which messages, wanted channels and outputs the port and the Rust are called with.
 use crate::budgets::budgets;
-use crate::check::{Check, MARKER};
+use crate::check::Check;
 use crate::encodes;
+use crate::families;
 use crate::histories::histories;
-use crate::messages::{
-    self, accepted_message, any_header, damage, good_message, header, mostly_accepted,
-    random_message,
-};
+use crate::messages::{self, accepted_message, any_header, good_message, mostly_accepted};
 use crate::oracle;
 use crate::random::Random;
 use crate::records;
+use crate::stricts;
+use crate::texts;
 
 pub enum Cases {
     /// Every one of n, by its number.
@@ -20,23 +20,23 @@ pub enum Cases {
     Fewer(u64, fn(&mut Check, &mut Random)),
 }
 
-pub const KINDS: [(&str, Cases); 41] = [
+pub const KINDS: [(&str, Cases); 63] = [
     (
         "headers, each byte at each place",
-        Cases::All(10 * 14 * 256, each_header_byte),
+        Cases::All(families::HEADER_BYTES, each_header_byte),
     ),
     ("headers, every truncation", Cases::Some(cut_headers)),
     (
         "messages of 0 to 2 chunk bytes",
-        Cases::All(16 * (1 + 256 + 65_536), short_messages),
+        Cases::All(2 * families::SHORT, short_messages),
     ),
     (
         "messages of 3 chunk bytes",
-        Cases::All(4 * 16_777_216, three_bytes),
+        Cases::All(2 * families::THREE_BYTES, three_bytes),
     ),
     (
         "messages of 0 to 4 of 18 chunks",
-        Cases::All(20 * (1 + 18 + 324 + 5_832 + 104_976), chunk_sequences),
+        Cases::All(2 * families::CHUNK_SEQUENCES, chunk_sequences),
     ),
     ("random messages", Cases::Some(random_messages)),
     ("good messages, every truncation", Cases::Some(truncations)),
@@ -107,6 +107,85 @@ pub const KINDS: [(&str, Cases); 41] = [
         Cases::All(encodes::FAULTS, encodes::faults),
     ),
     ("encode: random faults", Cases::Some(encodes::random_faults)),
+    (
+        "strict: headers, each byte",
+        Cases::All(families::HEADER_BYTES, stricts::header_bytes),
+    ),
+    (
+        "strict: headers, every truncation",
+        Cases::Fewer(4, stricts::cut_headers),
+    ),
+    (
+        "strict: 0 to 2 chunk bytes",
+        Cases::All(families::SHORT, stricts::short),
+    ),
+    (
+        "strict: 3 chunk bytes",
+        Cases::All(families::THREE_BYTES, stricts::three_bytes),
+    ),
+    (
+        "strict: 0 to 4 of 18 chunks",
+        Cases::All(families::CHUNK_SEQUENCES, stricts::chunk_sequences),
+    ),
+    (
+        "strict: random messages",
+        Cases::Fewer(4, stricts::random_chunks),
+    ),
+    (
+        "strict: good, every truncation",
+        Cases::Some(stricts::truncations),
+    ),
+    ("strict: good, damaged", Cases::Fewer(4, stricts::damaged)),
+    (
+        "strict: runs and pixels left",
+        Cases::All(stricts::RUNS, stricts::runs),
+    ),
+    (
+        "strict: runs past the picture",
+        Cases::Fewer(4, stricts::runs_past),
+    ),
+    (
+        "strict: INDEX of slots never filled",
+        Cases::Fewer(20, stricts::empty_slots),
+    ),
+    (
+        "strict: ff in three-channel sources",
+        Cases::Some(stricts::stuck),
+    ),
+    (
+        "strict: bytes after the marker",
+        Cases::Fewer(4, stricts::bytes_after),
+    ),
+    ("strict: markers damaged", Cases::Some(stricts::markers)),
+    (
+        "strict: accepted messages",
+        Cases::Fewer(20, stricts::accepted),
+    ),
+    (
+        "strict: many pixels",
+        Cases::All(stricts::LARGE, stricts::large),
+    ),
+    (
+        "strict: messages of every kind",
+        Cases::Fewer(10, stricts::any),
+    ),
+    (
+        "strict: what encode writes",
+        Cases::Fewer(6, stricts::encoded),
+    ),
+    (
+        "text: figures at range ends",
+        Cases::All(texts::EDGES, texts::edges),
+    ),
+    (
+        "text: the magic's bytes",
+        Cases::All(texts::MAGICS, texts::magics),
+    ),
+    ("text: any figures", Cases::Some(texts::any_figures)),
+    (
+        "text: numbers that are no refusal",
+        Cases::Some(texts::no_refusals),
+    ),
 ];
 
 /// No output of a decode is longer, but those of the images.
@@ -136,6 +215,11 @@ pub fn digit(number: &mut u64, n: u64) -> u64 {
     digit
 }
 
+/// The one that a number's last digit picks; the other digits are left.
+pub fn one_of<T: Copy>(number: &mut u64, from: &[T]) -> T {
+    from[digit(number, from.len() as u64) as usize]
+}
+
 /// The sequences over n letters by number, the shorter ones first: 0 is the empty one.
 pub fn sequence(mut number: u64, letters: u64) -> Vec<u8> {
     let mut sequence = Vec::new();
@@ -146,129 +230,55 @@ pub fn sequence(mut number: u64, letters: u64) -> Vec<u8> {
     sequence
 }
 
-// Headers
+// Families of messages
 
-fn each_header_byte(check: &mut Check, mut number: u64) {
-    let mut message = match digit(&mut number, 10) {
-        0 => header(1, 1, 3, 0),
-        1 => header(5, 3, 4, 1),
-        2 => header(800, 600, 4, 0),
-        3 => header(20_000, 20_000, 3, 1),
-        4 => header(20_000, 20_001, 4, 0),
-        5 => header(0, 1, 3, 0),
-        6 => header(65_536, 65_536, 5, 2),
-        7 => header(1, 400_000_000, 3, 0),
-        8 => header(400_000_000, 1, 4, 1),
-        _ => [&b"fioq"[..], &header(2, 2, 4, 0)[4..]].concat(),
-    };
-    let place = digit(&mut number, 14) as usize;
-    message[place] = number as u8;
-    check.header(&message);
-    message.push(0xfd);
-    message.extend(MARKER);
+fn each_header_byte(check: &mut Check, number: u64) {
+    let message = families::header_byte(number);
+    check.header(&message[..14]);
     decode_to_both(check, &message);
 }
 
 fn cut_headers(check: &mut Check, random: &mut Random) {
-    let mut message = any_header(random);
-    message.extend([0xc0; 3]);
-    message.extend(MARKER);
-    for length in 0..=message.len() {
-        check.header(&message[..length]);
-        decode_to_both(check, &message[..length]);
+    for message in families::cuts(&families::headed(random)) {
+        check.header(message);
+        decode_to_both(check, message);
     }
 }
 
-// Short messages, every one
-
-fn short_messages(check: &mut Check, mut number: u64) {
-    let width = 1 + digit(&mut number, 2) as u32;
-    let channels = 3 + digit(&mut number, 2) as u8;
+/// To three channels or to four, by the number's last digit.
+fn decode_to_one(check: &mut Check, mut number: u64, family: fn(u64) -> Vec<u8>) {
     let wanted = 3 + digit(&mut number, 2);
-    let is_marked = digit(&mut number, 2) == 1;
-    let mut message = header(width, 1, channels, 0);
-    message.extend(sequence(number, 256));
-    if is_marked {
-        message.extend(MARKER);
-    }
-    decode_exact(check, &message, wanted);
+    decode_exact(check, &family(number), wanted);
 }
 
-fn three_bytes(check: &mut Check, mut number: u64) {
-    let channels = 3 + digit(&mut number, 2) as u8;
-    let wanted = 3 + digit(&mut number, 2);
-    let mut message = header(3, 1, channels, 0);
-    message.extend(&number.to_le_bytes()[..3]);
-    message.extend(MARKER);
-    decode_exact(check, &message, wanted);
+fn short_messages(check: &mut Check, number: u64) {
+    decode_to_one(check, number, families::short);
 }
 
-fn chunk_sequences(check: &mut Check, mut number: u64) {
-    // INDEX 35 is the start pixel's slot, 13 and 1e those of (10,0,0) opaque and half transparent; 6a and a088 are differences of nothing
-    const CHUNKS: [&[u8]; 18] = [
-        &[0x00],
-        &[0x13],
-        &[0x1e],
-        &[0x35],
-        &[0x40],
-        &[0x6a],
-        &[0x7f],
-        &[0x80, 0x0f],
-        &[0xa0, 0x88],
-        &[0xbf, 0xf0],
-        &[0xc0],
-        &[0xc1],
-        &[0xfd],
-        &[0xfe, 0, 0, 0],
-        &[0xfe, 10, 0, 0],
-        &[0xff, 0, 0, 0, 0],
-        &[0xff, 0, 0, 0, 0xff],
-        &[0xff, 10, 0, 0, 0x80],
-    ];
-    let width = 1 + digit(&mut number, 5) as u32;
-    let channels = 3 + digit(&mut number, 2) as u8;
-    let wanted = 3 + digit(&mut number, 2);
-    let mut message = header(width, 1, channels, 1);
-    for letter in sequence(number, CHUNKS.len() as u64) {
-        message.extend(CHUNKS[usize::from(letter)]);
-    }
-    message.extend(MARKER);
-    decode_exact(check, &message, wanted);
+fn three_bytes(check: &mut Check, number: u64) {
+    decode_to_one(check, number, families::three_bytes);
 }
 
-// Random messages and good ones
+fn chunk_sequences(check: &mut Check, number: u64) {
+    decode_to_one(check, number, families::chunk_sequence);
+}
 
 fn random_messages(check: &mut Check, random: &mut Random) {
-    let mut message = random_message(random);
-    match random.below(8) {
-        0 => message.truncate(14 + random.below(message.len() - 13)),
-        1 => message.truncate(message.len() - random.between(1, 8)),
-        2 => (0..random.between(1, 9)).for_each(|_| message.push(random.byte())),
-        _ => {}
-    }
+    let message = families::random_chunks(random);
     decode_exact(check, &message, 3 + random.below(2) as u64);
 }
 
 fn truncations(check: &mut Check, random: &mut Random) {
-    let message = good_message(random, 60);
-    for length in 0..=message.len() {
-        decode_to_both(check, &message[..length]);
+    for message in families::cuts(&good_message(random, 60)) {
+        decode_to_both(check, message);
     }
 }
 
 fn damaged(check: &mut Check, random: &mut Random) {
-    let good = good_message(random, 200);
-    for _ in 0..8 {
-        let mut message = good.clone();
-        let start = if random.one_in(8) { 0 } else { 14 };
-        for _ in 0..random.between(1, 4) {
-            damage(random, &mut message, start);
-        }
+    for message in families::damaged(random) {
         decode_exact(check, &message, 3 + random.below(2) as u64);
     }
 }
-
-// Single rules: of chunks, of the marker, of the output, of wanted
 
 fn runs_past(check: &mut Check, random: &mut Random) {
     decode_to_both(check, &messages::run_past(random));
@@ -278,20 +288,9 @@ fn empty_slots(check: &mut Check, random: &mut Random) {
     decode_to_both(check, &messages::empty_slots(random));
 }
 
-/// ff in a three-channel source, followed by none to nine bytes.
 fn stuck(check: &mut Check, random: &mut Random) {
-    let start = messages::stuck(random);
-    let after: [[u8; 9]; 5] = [
-        [0, 0, 0, 0, 0, 0, 0, 1, 0],
-        [0xc0, 0, 0, 0, 0, 0, 0, 0, 1],
-        [0; 9],
-        [0xff; 9],
-        [(); 9].map(|()| random.byte()),
-    ];
-    for bytes in after {
-        for count in 0..=9 {
-            decode_to_both(check, &[&start[..], &bytes[..count]].concat());
-        }
+    for message in families::stuck(random) {
+        decode_to_both(check, &message);
     }
 }
 
@@ -299,24 +298,13 @@ fn bytes_after(check: &mut Check, random: &mut Random) {
     decode_to_both(check, &messages::bytes_after(random));
 }
 
-/// Each bit of the marker flipped, zeros left out and zeros put in.
 fn markers(check: &mut Check, random: &mut Random) {
-    let message = accepted_message(random, 20);
-    let start = message.len() - 8;
-    for bit in 0..64 {
-        let mut message = message.clone();
-        message[start + bit / 8] ^= 1 << (bit % 8);
-        decode_to_both(check, &message);
-    }
-    for zeros in [0, 1, 5, 6, 8, 9, 16] {
-        let mut message = message[..start].to_vec();
-        message.resize(start + zeros, 0);
-        message.push(1);
-        decode_to_both(check, &message);
-        message.push(0);
+    for message in families::markers(random) {
         decode_to_both(check, &message);
     }
 }
+
+// Outputs and wanted
 
 fn exact_outputs(check: &mut Check, random: &mut Random) {
     let most = if random.one_in(16) { 4000 } else { 400 };

@@ -2,7 +2,7 @@
 use crate::answer::Answer;
 use crate::port::MORE;
 use crate::random::Random;
-use crate::{oracle, port};
+use crate::{oracle, port, strict, words};
 use std::fmt::Write;
 
 pub const MARKER: [u8; 8] = [0, 0, 0, 0, 0, 0, 0, 1];
@@ -17,11 +17,14 @@ const PATTERNS: usize = 1021;
 const KEPT: usize = 5;
 const SHOWN: usize = 2000;
 
-/// How many cases the Rust answered with each number (of records: the rules), how many of them were encodes, and how often the port did otherwise.
+/// How many cases the Rust answered with each number (of records and the strict check: the rules), how many of them were encodes, strict checks and
+/// refusals in words, and how often the port did otherwise.
 #[derive(Clone, Copy, Default)]
 pub struct Tally {
-    pub answers: [u64; 10],
+    pub answers: [u64; 12],
     pub encodes: u64,
+    pub stricts: u64,
+    pub texts: u64,
     pub differences: u64,
 }
 
@@ -35,6 +38,8 @@ impl Tally {
             *sum += more;
         }
         self.encodes += other.encodes;
+        self.stricts += other.stricts;
+        self.texts += other.texts;
         self.differences += other.differences;
     }
 }
@@ -110,6 +115,30 @@ impl Check {
         }
     }
 
+    /// A case of the strict check: what must be answered.
+    pub fn strict(&mut self, message: &[u8]) -> Answer {
+        let (expected, result) = strict::judge(message);
+        self.tally.stricts += 1;
+        self.case(expected.number, result, "strict", "message", message);
+        expected
+    }
+
+    /// A case of a refusal in words, into an output of `room` bytes.
+    pub fn text(&mut self, number: u64, told: &[u64; 4], words: &str, room: usize) {
+        let (expected, result) = self.both(
+            room,
+            |out| port::text(number, told, out),
+            |out, _| words::put(words, out),
+        );
+        self.tally.answers[expected.number as usize] += 1;
+        self.tally.texts += 1;
+        if let Err(text) = result {
+            let call = format!("text of {number} {told:?}, output of {room} bytes");
+            let text = text.replace("Rust", "expected");
+            self.differs_on(&call, &text, "words", words.as_bytes());
+        }
+    }
+
     /// A case of any other kind: the number that was expected, more to do being none, and what was found otherwise.
     pub fn case(
         &mut self,
@@ -133,7 +162,8 @@ impl Check {
         }
     }
 
-    /// The Rust's answer, and the port's if it is the same in number, figures and memory. The Rust's call is told the port's answer.
+    /// The Rust's answer, and the port's if it is the same in number, figures and memory. The Rust's call is told the port's answer; of a refusal in
+    /// words it is `words::put`.
     fn both(
         &mut self,
         room: usize,
@@ -195,7 +225,7 @@ impl Check {
         self.both(room, |out| port::decode(message, wanted, out), rust)
     }
 
-    /// What an accepted encode wrote is, to its last byte, a message of the same picture, for the port and for the Rust.
+    /// What an accepted encode wrote is, to its last byte, a message of the same picture, for the port and for the Rust, and passes the strict check.
     fn comes_back(
         &mut self,
         ours: Answer,
@@ -213,6 +243,12 @@ impl Check {
         if again != Answer::accepted([length, size, 0, 0]) || self.written(pixels.len()) != pixels {
             return Err(format!(
                 "both {ours}, but decoded {again}, or to another picture"
+            ));
+        }
+        let (checked, expected) = (port::strict(&message), strict::by_rules(&message));
+        if checked != expected || !checked.is_accepted() {
+            return Err(format!(
+                "both {ours}, but strict {checked}, by the rules {expected}"
             ));
         }
         Ok(())

@@ -7,7 +7,7 @@ use crate::images::{self, Image};
 use crate::pictures::Picture;
 use crate::random::Random;
 use crate::sha256::sha256;
-use crate::{messages, oracle, port};
+use crate::{messages, oracle, port, stricts};
 use std::path::Path;
 use std::process::ExitCode;
 
@@ -16,6 +16,8 @@ const WHOLE: u64 = 8;
 
 /// Cut and damaged copies of an image are this many times fewer: each is as long as thousands of other cases.
 const IMAGES: u64 = 100;
+/// Strict checks of such copies are so many times fewer again.
+const STRICT: u64 = 30;
 /// One history more on each image, to three channels and to four, for this many cases of other kinds.
 const HISTORIES: u64 = 500_000;
 /// Where there are to be fewer, there are not fewer than this.
@@ -82,20 +84,44 @@ fn room(message: &[u8], wanted: u64) -> usize {
     oracle::needed(message, wanted).expect("a good header") as usize
 }
 
+/// An image, cut anywhere or damaged after its header.
+fn damaged_image(random: &mut Random, images: &[Image]) -> Vec<u8> {
+    let mut message = random.pick(images).message.clone();
+    if random.one_in(2) {
+        message.truncate(random.below(message.len()));
+    } else {
+        for _ in 0..random.between(1, 4) {
+            messages::damage(random, &mut message, 14);
+        }
+    }
+    message
+}
+
 fn damaged_images(check: &mut Check, random: &mut Random, images: &[Image], cases: u64) {
     while check.tally().cases() < cases {
-        let mut message = random.pick(images).message.clone();
+        let message = damaged_image(random, images);
         let wanted = 3 + random.below(2) as u64;
-        let room = room(&message, wanted);
-        if random.one_in(2) {
-            let length = random.below(message.len());
-            check.decode(&message[..length], wanted, room);
-        } else {
-            for _ in 0..random.between(1, 4) {
-                messages::damage(random, &mut message, 14);
-            }
-            check.decode(&message, wanted, room);
+        let room = oracle::needed(&message, wanted).unwrap_or(0);
+        check.decode(&message, wanted, room as usize);
+    }
+}
+
+/// The images as they are, with a byte less and a byte more, and what the port makes of their pixels.
+fn strict_images(check: &mut Check, images: &[Image]) {
+    for image in images {
+        let message = &image.message[..];
+        check.strict(message);
+        check.strict(&message[..message.len() - 1]);
+        check.strict(&[message, &[0]].concat());
+        for (_, picture) in image.pictures() {
+            stricts::check_encoded(check, &picture, 1);
         }
+    }
+}
+
+fn strict_damaged(check: &mut Check, random: &mut Random, images: &[Image], cases: u64) {
+    while check.tally().cases() < cases {
+        check.strict(&damaged_image(random, images));
     }
 }
 
@@ -135,18 +161,18 @@ fn image_histories(check: &mut Check, random: &mut Random, images: &[Image], tim
 
 fn print(kind: &str, tally: &Tally, note: &str) {
     let (cases, differences) = (tally.cases(), tally.differences);
-    let [accepted, cut, .., no_marker, bad] = tally.answers;
-    let others = cases - accepted - cut - no_marker - bad;
+    let [accepted, cut, .., no_marker, bad, past, after] = tally.answers;
+    let others = cases - accepted - cut - no_marker - bad - past - after;
     println!(
-        "{kind:36} {cases:10} {accepted:10} {cut:9} {others:9} {no_marker:9} {bad:9} {differences:11}  {note}"
+        "{kind:36} {cases:10} {accepted:10} {cut:9} {others:9} {no_marker:9} {bad:9} {past:9} {after:9} {differences:11}  {note}"
     );
 }
 
 pub fn run(cases: u64, seed: u64, folder: &Path) -> ExitCode {
-    println!("seed {seed}; the columns after the cases: how the Rust answered them, or how the rules answer records");
+    println!("seed {seed}; the columns after the cases: how the Rust answered them, or how the rules answer what it lacks");
     println!(
-        "{:36} {:>10} {:>10} {:>9} {:>9} {:>9} {:>9} {:>11}",
-        "kind", "cases", "accepted", "refused 1", "2 to 7", "8", "9", "differences"
+        "{:36} {:>10} {:>10} {:>9} {:>9} {:>9} {:>9} {:>9} {:>9} {:>11}",
+        "kind", "cases", "accepted", "refused 1", "2 to 7", "8", "9", "10", "11", "differences"
     );
     let mut check = Check::default();
     let mut total = Tally::default();
@@ -168,7 +194,7 @@ pub fn run(cases: u64, seed: u64, folder: &Path) -> ExitCode {
         let few = (cases / IMAGES).max(FEWEST);
         let times = 1 + cases / HISTORIES;
         type Run<'a> = &'a dyn Fn(&mut Check, &mut Random);
-        let kinds: [(&str, Run, &str); 5] = [
+        let kinds: [(&str, Run, &str); 7] = [
             (
                 "published images",
                 &|check, _| whole_images(check, &images),
@@ -194,6 +220,16 @@ pub fn run(cases: u64, seed: u64, folder: &Path) -> ExitCode {
                 &|check, random| encoded_parts(check, random, &images, few),
                 "",
             ),
+            (
+                "strict: published images",
+                &|check, _| strict_images(check, &images),
+                "every one",
+            ),
+            (
+                "strict: images, cut or damaged",
+                &|check, random| strict_damaged(check, random, &images, few / STRICT),
+                "",
+            ),
         ];
         for (kind, run, note) in kinds {
             check.begin(kind);
@@ -206,7 +242,10 @@ pub fn run(cases: u64, seed: u64, folder: &Path) -> ExitCode {
     for difference in check.found() {
         println!("{}", difference.text);
     }
-    println!("of these {} encode cases", total.encodes);
+    println!(
+        "of these {} encode cases, {} strict cases, {} text cases",
+        total.encodes, total.stricts, total.texts
+    );
     println!("{} cases, {} differences", total.cases(), total.differences);
     ExitCode::from(u8::from(total.differences > 0))
 }

@@ -1,5 +1,5 @@
 // The kinds of cases of encode: which pixels, dimensions, colour spaces and outputs the port and the Rust are called with.
-use crate::cases::{digit, sequence};
+use crate::cases::{digit, one_of, sequence};
 use crate::check::Check;
 use crate::messages;
 use crate::oracle;
@@ -23,11 +23,6 @@ fn encode_exact(check: &mut Check, picture: &Picture, colorspace: u64) {
 fn encode_row(check: &mut Check, channels: usize, colours: &[Colour]) {
     let colorspace = colours.len() as u64 % 2;
     encode_exact(check, &Picture::row(channels, colours), colorspace);
-}
-
-/// The one that a number's last digit picks; the other digits are left.
-fn one_of<T: Copy>(number: &mut u64, from: &[T]) -> T {
-    from[digit(number, from.len() as u64) as usize]
 }
 
 // One pixel, after the start pixel

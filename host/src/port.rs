@@ -42,6 +42,13 @@ extern "C" {
         next_length: usize,
         figures: *mut [u64; 4],
     ) -> u64;
+    fn pivotshade_text(
+        number: u64,
+        told: *const [u64; 4],
+        out: *mut u8,
+        out_length: usize,
+        figures: *mut [u64; 4],
+    ) -> u64;
 }
 
 /// What a run answers that has more to do.
@@ -137,5 +144,14 @@ pub fn run(message: &[u8], record: &[u8], out: &mut [u8], steps: u64, next: &mut
             &mut figures,
         )
     };
+    Answer { number, figures }
+}
+
+/// A refusal in words, by its number and the figures told with it: how many bytes they are.
+pub fn text(number: u64, told: &[u64; 4], out: &mut [u8]) -> Answer {
+    let mut figures = UNWRITTEN;
+    // the port reads the four figures told alone and writes out[..] and the four figures alone
+    let number =
+        unsafe { pivotshade_text(number, told, out.as_mut_ptr(), out.len(), &mut figures) };
     Answer { number, figures }
 }

@@ -20,6 +20,8 @@ pub struct Trace {
     pub needed: u64,
     /// One for each step that has more to do after it, and the start's before them.
     places: Vec<Place>,
+    /// Whether the last run is longer than the pixels left.
+    pub is_past: bool,
     /// The Rust's answer; 7 for an output of no bytes, where the picture is too long to be lent one.
     pub answer: Answer,
     /// The Rust's output, the bytes that it wrote; zeros after them.
@@ -62,12 +64,14 @@ impl Trace {
             pixel,
             is_stored: false,
         }];
+        let mut is_past = false;
         while pixel < pixels && answer.number != 7 {
             let (size, count, is_stored) = match chunk(&message[at..], channels) {
                 Some(chunk) => chunk,
                 None => break,
             };
             at += size;
+            is_past = count > pixels - pixel;
             pixel = pixels.min(pixel + count);
             places.push(Place {
                 at,
@@ -83,6 +87,7 @@ impl Trace {
             wanted,
             needed,
             places,
+            is_past,
             answer,
             written,
         })
