@@ -1,14 +1,12 @@
 -- Words for hosts: in 160 bytes there is room for each of them.
 -- Assumes nothing.
 use mathlib.Core.List.{List}
-use mathlib.Core.Path.{_≡_, _∙_, ap}
+use mathlib.Core.Path.{_∙_, ap}
 use Prim.Native.Nat.{ℕ, _≤_}
 use native.Mathlib.Nat.{zero-add}
 use native.Mathlib.Omega.{arith}
 use lib.ListN.{length}
-use Rattle.text.specs.Text.{putOver}
 use Rattle.text.proofs.Laws.{put-room}
-use Rattle.pixel.specs.declared.error.Worded.{Worded}
 use Rattle.pixel.specs.Words.{wordsOf}
 use Rattle.pixel.proofs.WordsLaws.{words-short, long-enough}
 use Rattle.rules.specs.Figures.{wordedFigures}

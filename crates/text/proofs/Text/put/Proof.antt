@@ -1,12 +1,12 @@
 -- `text::Text::put` meets its contract: the text is copied to the front, or nothing is.
 -- Assumes nothing.
-use mathlib.Core.Path.{_≡_, refl, sym, _∙_, ap}
-use mathlib.Core.List.{List, _++_}
+use mathlib.Core.Path.{_≡_, sym, _∙_, ap}
+use mathlib.Core.List.{List}
 use Prim.Native.Nat.{ℕ}
 use native.Mathlib.Omega.{arith}
 use borrow.Author.Needs.{needs}
-use borrow.Author.Tests.{lt-ltb, le-ltb}
-use lib.ListN.{length, take, drop, length-take}
+use borrow.Author.Tests.{lt-ltb}
+use lib.ListN.{length, take, length-take}
 use Rattle.text.specs.Text.{textOf, putOver}
 use Rattle.text.proofs.Laws.{as-long, placed}
 use Rattle.text.proofs.Text.put.Statement.{statement}
