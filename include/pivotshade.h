@@ -33,9 +33,9 @@ uint64_t pivotshade_encode(const uint8_t *px, size_t len, uint32_t width, uint32
    pivotshade_decode accepts to 3 and to 4 wanted channels. */
 uint64_t pivotshade_strict(const uint8_t *msg, size_t len, uint64_t figures[4]);
 
-/* A refusal in words, in ASCII with no 0 byte at their end: `number` is what a call returned, `figures` what it filled. 0: the words stand at the
-   front of out, and answer has their length. 7 {out_len, required}: nothing is written. A number that is no refusal has words too. With
-   PIVOTSHADE_TEXT_MAX bytes 7 never comes. */
+/* A refusal in words, in ASCII with no 0 byte at their end. `number` is what a call returned, `figures` what it filled: they are only read, and
+   answer is another place. 0: the words stand at the front of out, and answer[0] is their length. 7 {out_len, required}: nothing is written.
+   Every other number, 0 and PIVOTSHADE_MORE among them, is `unknown refusal: n`. With PIVOTSHADE_TEXT_MAX bytes 7 never comes. */
 #define PIVOTSHADE_TEXT_MAX 160
 uint64_t pivotshade_text(uint64_t number, const uint64_t figures[4], uint8_t *out, size_t out_len, uint64_t answer[4]);
 

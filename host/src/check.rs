@@ -134,7 +134,6 @@ impl Check {
         self.tally.texts += 1;
         if let Err(text) = result {
             let call = format!("text of {number} {told:?}, output of {room} bytes");
-            let text = text.replace("Rust", "expected");
             self.differs_on(&call, &text, "words", words.as_bytes());
         }
     }
@@ -183,7 +182,7 @@ impl Check {
         let ours = port(&mut self.ours[start..end]);
         let rusts = rust(&mut self.rusts[start..end], ours);
         if ours != rusts {
-            return (rusts, Err(format!("port {ours}, Rust {rusts}")));
+            return (rusts, Err(format!("port {ours}, expected {rusts}")));
         }
         // how far the output may be written, by the answer
         let most = match ours.number {
@@ -197,7 +196,7 @@ impl Check {
                 .expect("they differ");
             let (o, r, b) = (self.ours[place], self.rusts[place], before[place]);
             Err(format!(
-                "both {ours}; output byte {}: port {o:02x}, Rust {r:02x}, before {b:02x}",
+                "both {ours}; output byte {}: port {o:02x}, expected {r:02x}, before {b:02x}",
                 place as isize - start as isize
             ))
         } else if self.ours[start + most..] != before[start + most..] {

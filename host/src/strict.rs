@@ -1,4 +1,4 @@
-// The strict check, which the Rust lacks, judged twice: by a walk from document 01's rules alone, and by the Rust's decode.
+// The strict check, which the Rust lacks, judged twice: by a walk of the chunks from document 01's rules, and by the Rust's decode.
 use crate::answer::Answer;
 use crate::check::MARKER;
 use crate::output::is_same;
@@ -17,7 +17,7 @@ const PAST: Answer = Answer::refused(10, [0; 4]);
 /// Bytes after the marker.
 const AFTER: Answer = Answer::refused(11, [0; 4]);
 
-/// A chunk's bytes and pixels, by its first byte: document 01's table.
+/// A chunk's bytes and pixels, by its first byte: document 01's table, apart from the one in trace.rs, so that a slip in one of them is seen.
 fn sizes(first: u8) -> (usize, u64) {
     match first {
         0x00..=0x7f => (1, 1),

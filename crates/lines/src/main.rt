@@ -12,8 +12,7 @@ fn print_next(message: &mut [u8]) {
     report::print_line(&message[..n]);
 }
 
-// Reads a length and what it is of, and prints the line; false at the end of the list, or where the message is longer than any that
-// can be told from one that is too long.
+// Prints the line of the next message. False at the end of the list, and for a message of more than 65,537 bytes.
 fn next_line() -> bool {
     let mut length = [0u8; 3];
     let got = io::read_full(STDIN_FILENO, &mut length);

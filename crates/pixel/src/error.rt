@@ -127,7 +127,7 @@ pub fn text_of(number: u64, figures: FourFigures, out: &mut [u8]) -> Worded
     put_text(words::of(number, figures[0], figures[1], figures[2]), out)
 }
 
-// Puts a text into an output that has room for it.
+// Puts a text at the front of an output; nothing where there is no room for it.
 pub fn put_text(text: Text, out: &mut [u8]) -> Worded
     ensures { λ r. ⌜ r ≡ wordedIn (textOf text) (length (now (out .entry))) ⌝ }
     ensures { λ _. ⌜ now (out .exit) ≡ putOver (textOf text) (now (out .entry)) ⌝ }

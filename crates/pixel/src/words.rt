@@ -51,7 +51,7 @@ pub fn of(number: u64, a: u64, b: u64, c: u64) -> Text
     text.figure(b"unknown refusal: ", number)
 }
 
-// The four bytes that stood where the magic should, the first one first.
+// The sentence of a wrong magic: the four bytes that stood there, the first one first.
 fn magic(found: u64) -> Text
     ensures { λ r. ⌜ textOf r ≡ said (magicParts found) ⌝ }
 {

@@ -1,4 +1,4 @@
--- Words for hosts: room that is always enough. `IsText` is the contract of pivotshade_text, `lineOf` what report::line writes.
+-- Words for hosts: room that is always enough. `IsText` is the contract of pivotshade_text.
 use mathlib.Core.List.{List}
 use mathlib.Core.Path.{_≡_}
 use Prim.Native.Nat.{ℕ, _≤_}
@@ -10,6 +10,6 @@ use Rattle.promises.specs.Hosts.{says}
 
 -- into 160 bytes every number is told: 0 with the words' length, and the words, then what the output held after them
 abbrev pub TextFits : ℕ → List ℕ → Type 0
-TextFits number told =
-    (before figures left : List ℕ) → 160 ≤ length before → IsText number told before figures left
-    → (figures ≡ says 0 (length (wordsOf number told))) × (left ≡ writtenOver (wordsOf number told) before)
+TextFits number figures =
+    (before answered left : List ℕ) → 160 ≤ length before → IsText number figures before answered left
+    → (answered ≡ says 0 (length (wordsOf number figures))) × (left ≡ writtenOver (wordsOf number figures) before)

@@ -82,7 +82,8 @@ IsRun message steps bytes out next figures leftOut leftNext =
     × ((leftOut ≡ hostOut message steps out (readRecord bytes))
     × (leftNext ≡ hostNext message steps out next (readRecord bytes)))
 
--- the words of a number, `told` being its figures
+-- the words of a number and its figures
 abbrev pub IsText : ℕ → List ℕ → List ℕ → List ℕ → List ℕ → Type 0
-IsText number told out figures left =
-    (figures ≡ wordedFigures (wordedIn (wordsOf number told) (length out))) × (left ≡ putOver (wordsOf number told) out)
+IsText number figures out answered left =
+    (answered ≡ wordedFigures (wordedIn (wordsOf number figures) (length out)))
+    × (left ≡ putOver (wordsOf number figures) out)

@@ -172,18 +172,19 @@ pub extern "C" fn pivotshade_run(
     }
 }
 
-// A refusal in words, by its number and the figures told with it: how many bytes they are.
+// A refusal in words, by its number and figures: how many bytes they are.
 #[no_mangle]
 pub extern "C" fn pivotshade_text(
     number: u64,
-    told: &FourFigures,
+    figures: &FourFigures,
     out: &mut [u8],
-    figures: &mut FourFigures,
+    answered: &mut FourFigures,
 ) -> u64
-    ensures { λ r. ⌜ IsText number (now (told .entry)) (now (out .entry)) (r ∷ now (figures .exit)) (now (out .exit)) ⌝ }
+    ensures { λ r. ⌜ IsText number (now (figures .entry)) (now (out .entry))
+        (r ∷ now (answered .exit)) (now (out .exit)) ⌝ }
 {
-    match error::text_of(number, *told, out) {
-        Worded::Refused(e) => refuse(e, figures),
-        Worded::Done(size) => answer(0, size as u64, 0, figures),
+    match error::text_of(number, *figures, out) {
+        Worded::Refused(e) => refuse(e, answered),
+        Worded::Done(size) => answer(0, size as u64, 0, answered),
     }
 }

@@ -12,7 +12,7 @@ use strict::StrictAnswer;
 use text::Text;
 
 // A longer input is not checked.
-pub const MOST: usize = 65_536;
+const LONGEST: usize = 65_536;
 
 // Writes the line of an input at the front of an output; nothing where there is no room for it.
 pub fn line(input: &[u8], out: &mut [u8]) -> Worded
@@ -26,6 +26,7 @@ pub fn line(input: &[u8], out: &mut [u8]) -> Worded
 pub fn print_line(input: &[u8]) {
     let mut out = [0u8; 160];
     match line(input, &mut out) {
+        // It never comes: no line is longer than 160 bytes (`line-short`).
         Worded::Refused(_) => {}
         Worded::Done(size) => {
             io::write_all(STDOUT_FILENO, &out[..size]);
@@ -37,7 +38,7 @@ pub fn print_line(input: &[u8]) {
 fn told(input: &[u8]) -> Text
     ensures { λ r. ⌜ textOf r ≡ lineOf (now (input .entry)) ⌝ }
 {
-    if MOST < input.len() {
+    if LONGEST < input.len() {
         let text = Text::empty();
         return text.words(b"too long\n");
     }
@@ -60,10 +61,10 @@ fn ok(header: Header, chunks: u64, bytes: u64) -> Text
     let text = Text::empty();
     let dimensions = text.figure(b"ok ", header.width as u64)
         .figure(b" ", header.height as u64);
-    let whole = dimensions
+    let header_told = dimensions
         .figure(b" ", channels.as_u8() as u64)
         .figure(b" ", colorspace.as_u8() as u64);
-    whole.figure(b" ", chunks).figure(b" ", bytes).words(b"\n")
+    header_told.figure(b" ", chunks).figure(b" ", bytes).words(b"\n")
 }
 
 // What is said of one that is refused.

@@ -5,12 +5,12 @@ ghost use lib.ListN.{length};
 ghost use Rattle.text.specs.Text.{textOf, clipped, decimal, putOver};
 
 // How many bytes a text may have.
-pub const ROOM: usize = 160;
+const ROOM: usize = 160;
 
-// The text is the first `len` bytes.
+// The text is the first `len` bytes, all of them where `len` is more.
 pub struct Text {
-    pub bytes: [u8; 160],
-    pub len: usize,
+    bytes: [u8; 160],
+    len: usize,
 }
 
 impl Text {

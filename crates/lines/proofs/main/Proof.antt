@@ -1,4 +1,5 @@
 -- `lines::main` is safe and ends: the messages that may still be read count down.
+-- Assumes nothing.
 use borrow.Author.Needs.{needs}
 use Rattle.lines.proofs.main.Statement.{statement}
 use Rattle.lines.proofs.main.Tie as tie
