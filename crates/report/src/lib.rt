@@ -64,7 +64,10 @@ fn ok(header: Header, chunks: u64, bytes: u64) -> Text
     let header_told = dimensions
         .figure(b" ", channels.as_u8() as u64)
         .figure(b" ", colorspace.as_u8() as u64);
-    header_told.figure(b" ", chunks).figure(b" ", bytes).words(b"\n")
+    header_told
+        .figure(b" ", chunks)
+        .figure(b" ", bytes)
+        .words(b"\n")
 }
 
 // What is said of one that is refused.
