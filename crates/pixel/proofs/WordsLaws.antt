@@ -2,12 +2,13 @@
 -- Assumes nothing.
 use mathlib.Core.Bool.{Bool, true, false, cond}
 use mathlib.Core.List.{List}
-use mathlib.Core.Path.{_≡_, refl, sym, _∙_, subst}
+use mathlib.Core.Path.{_≡_, refl, sym, _∙_, ap, subst}
 use Prim.Native.Nat.{ℕ, _≤_, _<_}
 use borrow.Author.Tests.{lt-ltb, le-ltb, ltb-false}
 use lib.Dec.{ltb, eqb, lit≤}
 use lib.ListN.{length, getD}
 use Rattle.text.proofs.Laws.{said-fits, either-fits}
+use Rattle.pixel.specs.declared.error.Error.{Error}
 use Rattle.pixel.specs.declared.error.Worded.{Worded}
 use Rattle.pixel.specs.declared.error.Worded.the-variants as worded
 use Rattle.pixel.specs.declared.error.Error.the-variants.{OutputBufferTooSmall}
@@ -38,6 +39,26 @@ worded-within words room = go (ltb room (length words)) refl
         → Within room (cond short (worded.Refused (OutputBufferTooSmall room (length words))) (worded.Done (length words)))
     go true e = tt
     go false e = ltb-false room (length words) e
+
+abbrev IsDone : Worded → Type 0
+IsDone (worded.Done size) = Unit
+IsDone (worded.Refused e) = ⊥
+
+-- words for which there is room are not refused
+pub not-refused :
+    (words : List ℕ) (room : ℕ) (e : Error) (r : Worded) → length words ≤ room → r ≡ wordedIn words room
+    → r ≡ worded.Refused e → ⊥
+not-refused words room e r fits is refused = subst IsDone (sym (long-enough words room fits) ∙ sym is ∙ refused) tt
+
+-- and what is answered is their length
+pub done-length :
+    (words : List ℕ) (room size : ℕ) (r : Worded) → length words ≤ room → r ≡ wordedIn words room → r ≡ worded.Done size
+    → size ≡ length words
+done-length words room size r fits is done = ap sizeOf (sym done ∙ is ∙ long-enough words room fits)
+  where
+    sizeOf : Worded → ℕ
+    sizeOf (worded.Done size) = size
+    sizeOf (worded.Refused e) = 0
 
 -- words that were written lie within the room
 pub done-within : (words : List ℕ) (room size : ℕ) (r : Worded) → r ≡ wordedIn words room → r ≡ worded.Done size → size ≤ room

@@ -335,7 +335,7 @@ report·line κs a z z′ e e′ ok ok′ p q =
     (p .0 ∙ sym (q .0), λ i. (tt, (out i, tt)))
 
 pub report·print-line : Determined report.print_line.Kinds.ps report.print_line.Kinds.r report.print_line.Reads.Post
-report·print-line κs a z z′ e e′ ok ok′ p q = (refl, refl)
+report·print-line κs a z z′ e e′ ok ok′ p q = (p ∙ sym q, refl)
 
 -- ---- crate `qoi`, for hosts
 pub qoi·pivotshade-header : Determined qoi.pivotshade_header.Kinds.ps qoi.pivotshade_header.Kinds.r qoi.pivotshade_header.Reads.Post

@@ -22,14 +22,17 @@ pub fn line(input: &[u8], out: &mut [u8]) -> Worded
     error::put_text(told(input), out)
 }
 
-// Prints the line of an input.
-pub fn print_line(input: &[u8]) {
+// Prints the line of an input, and answers how many bytes it has.
+pub fn print_line(input: &[u8]) -> usize
+    ensures { λ r. ⌜ r ≡ length (lineOf (now (input .entry))) ⌝ }
+{
     let mut out = [0u8; 160];
     match line(input, &mut out) {
-        // It never comes: no line is longer than 160 bytes (`line-short`).
-        Worded::Refused(_) => {}
+        // It never comes: no line is longer than 160 bytes.
+        Worded::Refused(_) => 0,
         Worded::Done(size) => {
             io::write_all(STDOUT_FILENO, &out[..size]);
+            size
         }
     }
 }
