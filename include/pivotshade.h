@@ -1,5 +1,5 @@
-/* The functions that a host calls. Each returns 0 or the number of a refusal, and fills four figures: the accepted answer's, or the
-   refusal's, zeros after them. The numbers and their figures:
+/* The functions that a host calls. Each returns 0 or the number of a refusal, and fills its last part, four figures: the accepted answer's, or
+   the refusal's, zeros after them. The numbers and their figures:
      1 input ended                           5 dimensions {width, height}             8 no marker after the last pixel
      2 channels {channels}                   6 image length {size, width, height}     9 bad state or record
      3 colour space {byte}                   7 output too small {size, required}     10 run past the image (strict)
@@ -35,7 +35,7 @@ uint64_t pivotshade_strict(const uint8_t *msg, size_t len, uint64_t figures[4]);
 
 /* A refusal in words, in ASCII with no 0 byte at their end. `number` is what a call returned, `figures` what it filled: they are only read, and
    answer is another place. 0: the words stand at the front of out, and answer[0] is their length. 7 {out_len, required}: nothing is written.
-   Every other number, 0 and PIVOTSHADE_MORE among them, is `unknown refusal: n`. With PIVOTSHADE_TEXT_MAX bytes 7 never comes. */
+   Of a number that is no refusal, as 0 and PIVOTSHADE_MORE, they say `unknown refusal: n`. With PIVOTSHADE_TEXT_MAX bytes 7 never comes. */
 #define PIVOTSHADE_TEXT_MAX 160
 uint64_t pivotshade_text(uint64_t number, const uint64_t figures[4], uint8_t *out, size_t out_len, uint64_t answer[4]);
 
