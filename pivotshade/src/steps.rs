@@ -1,0 +1,212 @@
+// The decode in steps: records of how far it is, with which another worker goes on.
+use crate::error::{accepted, Result};
+use crate::ffi::{self, MORE, RECORD_MAX};
+use crate::header::{decode_header, Header};
+use crate::types::Channels;
+use std::fmt;
+
+/// Bytes of a record before its numbers: the message's header.
+const NUMBERS: usize = 14;
+
+/// How far a decode is: what a worker saves, so that another one can go on from there.
+///
+/// A record comes from [`start`], from [`run`] or, out of a store, from [`Record::from_bytes`], which tests it. So whatever a run refuses, it is not
+/// the record.
+#[derive(Clone, PartialEq, Eq, Hash)]
+pub struct Record {
+    /// Zeros from `length` on.
+    bytes: [u8; RECORD_MAX],
+    length: usize,
+}
+
+impl Record {
+    /// The most bytes that a record has.
+    pub const MAX_LEN: usize = RECORD_MAX;
+
+    /// The bytes to save.
+    pub fn as_bytes(&self) -> &[u8] {
+        &self.bytes[..self.length]
+    }
+
+    /// The record of saved bytes, tested by the proved reader; one byte more or less than were saved is refused too.
+    ///
+    /// Refused: [`Error::UnexpectedBufferEnd`](crate::Error::UnexpectedBufferEnd) where it is cut short, a refusal of its header as
+    /// [`decode_header`] has it, [`Error::InvalidChannels`](crate::Error::InvalidChannels) of what it decodes to, or
+    /// [`Error::BadState`](crate::Error::BadState). A damage that leaves a record of another decode cannot be told: a store that may damage its bytes
+    /// needs a sum of its own over them.
+    ///
+    /// ```
+    /// use pivotshade::{encode_to_vec, start, Channels, Error, Record};
+    ///
+    /// let record = start(encode_to_vec([10, 20, 30], 1, 1)?, Channels::Rgb)?;
+    /// let saved = record.as_bytes();
+    /// assert_eq!(Record::from_bytes(saved), Ok(record.clone()));
+    /// assert_eq!(Record::from_bytes(&saved[1..]), Err(Error::InvalidChannels { channels: 0 }));
+    /// assert_eq!(Record::from_bytes(&saved[..200]), Err(Error::UnexpectedBufferEnd));
+    /// # Ok::<(), pivotshade::Error>(())
+    /// ```
+    pub fn from_bytes(bytes: &[u8]) -> Result<Self> {
+        // a run of no steps looks at the record alone
+        match taken_up(&[], bytes, &mut [], 0)? {
+            Ran::More(record) => Ok(record),
+            Ran::Done { .. } => unreachable!("no steps end no decode"),
+        }
+    }
+
+    /// The header of the message that it was started on.
+    pub fn header(&self) -> Header {
+        decode_header(self.as_bytes()).expect("a record's header passes its test")
+    }
+
+    /// The channels that it decodes to.
+    pub fn channels(&self) -> Channels {
+        let [wanted, ..] = self.numbers();
+        Channels::try_from(wanted as u8).expect("a record's channels are 3 or 4")
+    }
+
+    /// How many pixels are done.
+    pub fn pixels_done(&self) -> usize {
+        let [.., pixel] = self.numbers();
+        pixel as usize
+    }
+
+    /// How many bytes of the output are done: a run from here writes only after them.
+    pub fn bytes_done(&self) -> usize {
+        self.pixels_done() * usize::from(self.channels().as_u8())
+    }
+
+    /// How many bytes the whole output has.
+    pub fn required_buf_len(&self) -> usize {
+        self.header().with_channels(self.channels()).n_bytes()
+    }
+
+    /// Wanted channels, byte position in the message, pixel: seven bits a byte, the lowest first, the top bit set on all but the last byte.
+    fn numbers(&self) -> [u64; 3] {
+        let mut bytes = self.bytes[NUMBERS..].iter();
+        [(); 3].map(|()| {
+            let (mut number, mut place) = (0, 0);
+            for byte in bytes.by_ref() {
+                number |= u64::from(byte & 0x7f) << place;
+                place += 7;
+                if byte & 0x80 == 0 {
+                    break;
+                }
+            }
+            number
+        })
+    }
+}
+
+impl fmt::Debug for Record {
+    fn fmt(&self, f: &mut fmt::Formatter) -> fmt::Result {
+        f.debug_struct("Record")
+            .field("header", &self.header())
+            .field("channels", &self.channels())
+            .field("pixels_done", &self.pixels_done())
+            .finish_non_exhaustive()
+    }
+}
+
+/// Where a run stands.
+// a record stands in it as it is, since a box would take memory at every run
+#[allow(clippy::large_enum_variant)]
+#[derive(Clone, Debug, PartialEq, Eq)]
+#[must_use]
+pub enum Ran {
+    /// There is more to do, from this record on.
+    More(Record),
+    /// The decode ended, as one in a single call ends.
+    Done {
+        /// Bytes of the output.
+        size: usize,
+        /// Bytes of the message, to the end of its marker; see [`rest`](crate::rest).
+        used: usize,
+    },
+}
+
+/// Starts a decode in steps, to these channels: its first record. Nothing is decoded yet.
+///
+/// Refused as [`decode_header`].
+pub fn start(message: impl AsRef<[u8]>, channels: Channels) -> Result<Record> {
+    let mut bytes = [0; RECORD_MAX];
+    let wanted = channels.as_u8().into();
+    let [length, ..] = accepted(ffi::start(message.as_ref(), wanted, &mut bytes))?;
+    Ok(Record {
+        bytes,
+        length: length as usize,
+    })
+}
+
+/// Goes on from a record for at most `steps` steps, a chunk each.
+///
+/// However the decode was cut into runs, and whichever of its records the last worker took up, its end is that of one undisturbed decode: the same
+/// answer, and the same bytes in `out`. That is proved. With as many steps as pixels are missing and one more, which tests the marker, it ends;
+/// `u64::MAX` is allowed.
+///
+/// # What the caller owes
+///
+/// The call cannot see these, and what it promises rests on them:
+///
+/// - `message` is the one that the record was started on, byte for byte. Another one is not refused, and the pixels are wrong; [`Record::header`]
+///   tells at least one of another header.
+/// - `out` holds, in its first [`Record::bytes_done`] bytes, what it held when the record came. From there on it may hold anything.
+///
+/// Neither is about memory: with the wrong bytes the call is as safe, and answers nonsense.
+///
+/// A caller that keeps its output in a file writes there only from [`Record::bytes_done`] of the record that it took up on; and it flushes
+/// that before it saves the next record.
+///
+/// # What it leaves
+///
+/// No byte of `out` before [`Record::bytes_done`] is written, and none after [`Record::required_buf_len`]. Refused:
+/// [`Error::OutputBufferTooSmall`](crate::Error::OutputBufferTooSmall), with `out` as it was;
+/// [`Error::UnexpectedBufferEnd`](crate::Error::UnexpectedBufferEnd) and [`Error::InvalidPadding`](crate::Error::InvalidPadding) of the message, with
+/// `out` as one undisturbed decode leaves it. After any of them the same record may be handed in again.
+///
+/// ```
+/// use pivotshade::{encode_to_vec, run, start, Channels, Ran, Record};
+///
+/// let pixels: Vec<u8> = (0..=255).collect();
+/// let message = encode_to_vec(&pixels, 8, 8)?;
+///
+/// // the first worker does ten steps, saves its record, goes on and is cut off
+/// let mut out = vec![0; pixels.len()];
+/// let record = start(&message, Channels::Rgba)?;
+/// let saved = match run(&message, &record, &mut out, 10)? {
+///     Ran::More(next) => next.as_bytes().to_vec(),
+///     Ran::Done { .. } => unreachable!(),
+/// };
+/// out[40..].fill(0xee);
+///
+/// // the second one goes on from the record
+/// let mut record = Record::from_bytes(&saved)?;
+/// assert_eq!(record.bytes_done(), 40);
+/// let size = loop {
+///     match run(&message, &record, &mut out, 10)? {
+///         Ran::More(next) => record = next,
+///         Ran::Done { size, .. } => break size,
+///     }
+/// };
+/// assert_eq!(&out[..size], pixels);
+/// # Ok::<(), pivotshade::Error>(())
+/// ```
+pub fn run(message: impl AsRef<[u8]>, record: &Record, out: &mut [u8], steps: u64) -> Result<Ran> {
+    taken_up(message.as_ref(), record.as_bytes(), out, steps)
+}
+
+/// A run from any bytes, which may be no record.
+fn taken_up(message: &[u8], record: &[u8], out: &mut [u8], steps: u64) -> Result<Ran> {
+    let mut bytes = [0; RECORD_MAX];
+    let answer = ffi::run(message, record, out, steps, &mut bytes);
+    if let (MORE, [length, ..]) = answer {
+        return Ok(Ran::More(Record {
+            bytes,
+            length: length as usize,
+        }));
+    }
+    let [size, used, ..] = accepted(answer)?;
+    Ok(Ran::Done {
+        size: size as usize,
+        used: used as usize,
+    })
+}

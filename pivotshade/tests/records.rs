@@ -1,0 +1,183 @@
+// Records as they are, cut, lengthened and damaged in every byte.
+mod common;
+
+use common::{picture, Random};
+use pivotshade::{encode_to_vec, run, start, strict, Channels, Error, Ran, Record};
+
+/// Where the parts of a record stand whose numbers are a byte each.
+const WANTED: usize = 14;
+const POSITION: usize = 15;
+const PIXEL: usize = 16;
+const ALPHA: usize = 20;
+
+/// The record of a 1x1 message before its first chunk.
+fn first(channels: Channels) -> Vec<u8> {
+    let message = encode_to_vec([0, 0, 0], 1, 1).unwrap();
+    start(message, channels).unwrap().as_bytes().to_vec()
+}
+
+/// What is read of a record in which the bytes from a place on are replaced by others.
+fn replaced(channels: Channels, at: usize, old: usize, new: &[u8]) -> Result<Vec<u8>, Error> {
+    let mut bytes = first(channels);
+    bytes.splice(at..at + old, new.iter().copied());
+    let record = Record::from_bytes(&bytes)?;
+    assert_eq!(record.as_bytes(), bytes);
+    Ok(bytes)
+}
+
+#[test]
+fn first_record() {
+    let mut expected = common::header(b"qoif", 1, 1, 3, 0);
+    expected.extend([4, 14, 0]);
+    expected.extend([0, 0, 0, 255]);
+    expected.extend([0; 256]);
+    assert_eq!(first(Channels::Rgba), expected);
+}
+
+#[test]
+fn numbers_of_more_than_a_byte() {
+    let mut random = Random::new(8);
+    let pixels = picture(&mut random, 100_000, 3);
+    let message = encode_to_vec(&pixels, 1000, 100).unwrap();
+    let mut out = vec![0; 400_000];
+    let mut record = start(&message, Channels::Rgba).unwrap();
+    let mut longest = 0;
+    while let Ran::More(next) = run(&message, &record, &mut out, 777).unwrap() {
+        record = Record::from_bytes(next.as_bytes()).unwrap();
+        assert_eq!(record, next);
+        assert_eq!(record.bytes_done(), 4 * record.pixels_done());
+        // up to the record's pixel the picture stands there
+        let at = record.pixels_done() - 1;
+        assert_eq!(out[4 * at..4 * at + 3], pixels[3 * at..3 * at + 3]);
+        longest = longest.max(record.as_bytes().len());
+    }
+    assert_eq!(longest, 277 + 2 + 2);
+    assert!(longest <= Record::MAX_LEN);
+
+    // as many steps as there are chunks: every pixel is done, and the marker is still to test
+    let chunks = strict(&message).unwrap().chunks as u64;
+    let record = start(&message, Channels::Rgba).unwrap();
+    let record = match run(&message, &record, &mut out, chunks).unwrap() {
+        Ran::More(next) => next,
+        done => panic!("{done:?} before the marker"),
+    };
+    assert_eq!(record.pixels_done(), 100_000);
+    assert_eq!(record.bytes_done(), 400_000);
+    assert_eq!(record.as_bytes()[18..21], [0xa0, 0x8d, 0x06]);
+    assert_eq!(
+        format!("{:?}", start(&message, Channels::Rgba).unwrap()),
+        "Record { header: Header { width: 1000, height: 100, channels: Rgb, colorspace: Srgb }, channels: Rgba, pixels_done: 0, .. }"
+    );
+}
+
+#[test]
+fn cut_at_every_byte() {
+    let bytes = first(Channels::Rgba);
+    for length in 0..bytes.len() {
+        let cut = Record::from_bytes(&bytes[..length]);
+        assert_eq!(cut, Err(Error::UnexpectedBufferEnd));
+    }
+}
+
+#[test]
+fn lengthened() {
+    for more in [1, 13, 14, 1000] {
+        let mut bytes = first(Channels::Rgba);
+        bytes.resize(bytes.len() + more, 0);
+        assert_eq!(Record::from_bytes(&bytes), Err(Error::BadState));
+    }
+}
+
+#[test]
+fn each_fault() {
+    let wanted = |new: &[u8]| replaced(Channels::Rgb, WANTED, 1, new).map(|_| ());
+    assert_eq!(wanted(&[4]), Ok(()));
+    assert_eq!(wanted(&[5]), Err(Error::InvalidChannels { channels: 5 }));
+    // 300, which is told as 255
+    let most = Error::InvalidChannels { channels: 255 };
+    assert_eq!(wanted(&[0xac, 0x02]), Err(most));
+    // 3, but not in the shortest form
+    assert_eq!(wanted(&[0x83, 0x00]), Err(Error::BadState));
+
+    let position = |new: &[u8]| replaced(Channels::Rgb, POSITION, 1, new).map(|_| ());
+    assert_eq!(position(&[13]), Err(Error::BadState));
+    assert_eq!(position(&[0x80, 0x01]), Ok(()));
+    let mut largest = [0xff; 10];
+    largest[9] = 1;
+    assert_eq!(position(&largest), Ok(()));
+    largest[9] = 2;
+    assert_eq!(position(&largest), Err(Error::BadState));
+
+    let pixel = |new: &[u8]| replaced(Channels::Rgb, PIXEL, 1, new).map(|_| ());
+    assert_eq!(pixel(&[1]), Ok(()));
+    assert_eq!(pixel(&[2]), Err(Error::BadState));
+
+    let alpha = |channels, new| replaced(channels, ALPHA, 1, &[new]).map(|_| ());
+    assert_eq!(alpha(Channels::Rgb, 254), Err(Error::BadState));
+    assert_eq!(alpha(Channels::Rgba, 254), Ok(()));
+
+    let header = |at, new| replaced(Channels::Rgb, at, 1, &[new]).map(|_| ());
+    let (width, height) = (0, 1);
+    assert_eq!(
+        header(7, 0),
+        Err(Error::InvalidImageDimensions { width, height })
+    );
+    assert_eq!(header(12, 2), Err(Error::InvalidChannels { channels: 2 }));
+    let colorspace = 9;
+    assert_eq!(header(13, 9), Err(Error::InvalidColorSpace { colorspace }));
+    let magic = u32::from_be_bytes(*b"poif");
+    assert_eq!(header(0, b'p'), Err(Error::InvalidMagic { magic }));
+}
+
+/// A record of a byte position past the message is a record; its run is refused, and nothing is written.
+#[test]
+fn position_past_the_message() {
+    let bytes = replaced(Channels::Rgb, POSITION, 1, &[0x7f]).unwrap();
+    let record = Record::from_bytes(&bytes).unwrap();
+    let message = encode_to_vec([0, 0, 0], 1, 1).unwrap();
+    let mut out = [0xee; 3];
+    assert_eq!(
+        run(message, &record, &mut out, 1),
+        Err(Error::UnexpectedBufferEnd)
+    );
+    assert_eq!(out, [0xee; 3]);
+}
+
+/// Each byte changed to each value: read as it is, or refused by a refusal that a record has; and what is read can be run on anything.
+#[test]
+fn damaged_in_every_byte() {
+    let message = encode_to_vec([9; 12], 2, 2).unwrap();
+    let mut out = [0; 16];
+    let mut record = start(&message, Channels::Rgb).unwrap();
+    if let Ran::More(next) = run(&message, &record, &mut out, 1).unwrap() {
+        record = next;
+    }
+    assert_eq!(record.pixels_done(), 1);
+    let (mut read, mut refused) = (0, 0);
+    let length = record.as_bytes().len();
+    for at in 0..length {
+        for byte in 0..=255 {
+            let mut bytes = record.as_bytes().to_vec();
+            bytes[at] = byte;
+            match Record::from_bytes(&bytes) {
+                Ok(other) => {
+                    assert_eq!(other.as_bytes(), bytes);
+                    assert!(other.pixels_done() <= other.header().n_pixels());
+                    let ran = run(&message, &other, &mut out, 0);
+                    assert_eq!(ran, Ok(Ran::More(other.clone())));
+                    if let Err(error) = run(&message, &other, &mut out, u64::MAX) {
+                        assert!([1, 7, 8].contains(&error.number()));
+                    }
+                    read += 1;
+                }
+                Err(error) => {
+                    assert!([1, 2, 3, 4, 5, 9].contains(&error.number()));
+                    refused += 1;
+                }
+            }
+        }
+    }
+    // every slot and three bytes of the colour may hold anything; so many at least are read, and the magic's changes refused
+    assert!(read >= 256 * (256 + 3) && refused >= 4 * 255);
+    assert_eq!(read + refused, 256 * length);
+}

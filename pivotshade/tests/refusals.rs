@@ -1,0 +1,242 @@
+// Every refusal: from a call that is refused so, with its number, its figures and its words.
+mod common;
+
+use common::{header, message};
+use pivotshade::{
+    decode_header, decode_to_buf, decode_to_vec, encode_to_buf, encode_to_vec, start, strict,
+    Channels, ColorSpace, Encoder, Error, Header, Record,
+};
+
+/// A refusal that came, and what it must be and say.
+fn is(came: Error, error: Error, number: u64, figures: [u64; 4], words: &str) {
+    assert_eq!(came, error);
+    assert_eq!((came.number(), came.figures()), (number, figures));
+    assert_eq!(came.to_string(), words);
+    // width and fill are not looked at, as crate qoi's `Display` does not
+    assert_eq!(format!("{came:_>200}"), words);
+}
+
+#[test]
+fn unexpected_buffer_end() {
+    is(
+        decode_header(&header(b"qoif", 1, 1, 3, 0)[..13]).unwrap_err(),
+        Error::UnexpectedBufferEnd,
+        1,
+        [0; 4],
+        "unexpected input buffer end while decoding",
+    );
+    // the pixels of the chunks that are there are written
+    let cut = [header(b"qoif", 2, 1, 3, 0), vec![0xfe, 7, 8, 9, 0xfe]].concat();
+    let mut out = [0xee; 6];
+    let refused = decode_to_buf(&mut out, cut);
+    assert_eq!(refused, Err(Error::UnexpectedBufferEnd));
+    assert_eq!(out, [7, 8, 9, 0xee, 0xee, 0xee]);
+}
+
+#[test]
+fn invalid_channels() {
+    is(
+        decode_header(header(b"nope", 0, 1, 5, 2)).unwrap_err(),
+        Error::InvalidChannels { channels: 5 },
+        2,
+        [5, 0, 0, 0],
+        "invalid number of channels: 5",
+    );
+    for (length, channels) in [(0, 0), (5, 5), (255, 255), (1000, 255)] {
+        let refused = encode_to_vec(vec![0; length], 1, 1);
+        assert_eq!(refused, Err(Error::InvalidChannels { channels }));
+    }
+}
+
+#[test]
+fn invalid_color_space() {
+    is(
+        decode_header(header(b"nope", 0, 1, 3, 2)).unwrap_err(),
+        Error::InvalidColorSpace { colorspace: 2 },
+        3,
+        [2, 0, 0, 0],
+        "invalid color space: 2 (expected 0 or 1)",
+    );
+}
+
+#[test]
+fn invalid_magic() {
+    is(
+        decode_header(header(b"nope", 0, 1, 3, 0)).unwrap_err(),
+        Error::InvalidMagic { magic: 0x6e6f7065 },
+        4,
+        [0x6e6f7065, 0, 0, 0],
+        "invalid magic: expected 1903126886, got [110, 111, 112, 101]",
+    );
+}
+
+#[test]
+fn invalid_image_dimensions() {
+    let error = Error::InvalidImageDimensions {
+        width: 20000,
+        height: 20001,
+    };
+    is(
+        decode_header(header(b"qoif", 20000, 20001, 3, 0)).unwrap_err(),
+        error,
+        5,
+        [20000, 20001, 0, 0],
+        "invalid image dimensions: 20000x20001",
+    );
+    assert_eq!(encode_to_vec([], 20000, 20001), Err(error));
+}
+
+#[test]
+fn invalid_image_length() {
+    is(
+        encode_to_vec([0; 7], 2, 1).unwrap_err(),
+        Error::InvalidImageLength {
+            size: 7,
+            width: 2,
+            height: 1,
+        },
+        6,
+        [7, 2, 1, 0],
+        "invalid image length: 7 bytes for 2x1",
+    );
+    assert!(Encoder::new(&[0; 7], 2, 1).is_err());
+}
+
+#[test]
+fn output_buffer_too_small() {
+    let mut out = [0xee; 25];
+    is(
+        encode_to_buf(&mut out, [0; 3], 1, 1).unwrap_err(),
+        Error::OutputBufferTooSmall {
+            size: 25,
+            required: 26,
+        },
+        7,
+        [25, 26, 0, 0],
+        "output buffer size too small: 25 (required: 26)",
+    );
+    assert_eq!(out, [0xee; 25]);
+    let mut out = [0xee; 2];
+    let refused = decode_to_buf(&mut out, message(1, 3, &[0xc0]));
+    let (size, required) = (2, 3);
+    assert_eq!(refused, Err(Error::OutputBufferTooSmall { size, required }));
+    assert_eq!(out, [0xee; 2]);
+}
+
+#[test]
+fn invalid_padding() {
+    // ff is no chunk of a message of three channels: its pixel is written, and the marker is not there
+    let mut bytes = header(b"qoif", 1, 1, 3, 0);
+    bytes.extend([0xff, 0, 0, 0, 0, 0, 0, 0]);
+    let mut out = [0xee; 3];
+    is(
+        decode_to_buf(&mut out, &bytes).unwrap_err(),
+        Error::InvalidPadding,
+        8,
+        [0; 4],
+        "invalid padding (stream end marker mismatch)",
+    );
+    assert_eq!(out, [0; 3]);
+    bytes.pop();
+    assert_eq!(decode_to_vec(bytes), Err(Error::UnexpectedBufferEnd));
+}
+
+#[test]
+fn bad_state() {
+    let record = start(message(1, 3, &[0xc0]), Channels::Rgb).unwrap();
+    let longer = [record.as_bytes(), &[0]].concat();
+    is(
+        Record::from_bytes(&longer).unwrap_err(),
+        Error::BadState,
+        9,
+        [0; 4],
+        "invalid decoder state or record",
+    );
+}
+
+#[test]
+fn run_past_image() {
+    let bytes = message(1, 3, &[0xfd]);
+    assert_eq!(decode_to_vec(&bytes).unwrap().1, [0; 3]);
+    is(
+        strict(bytes).unwrap_err(),
+        Error::RunPastImage,
+        10,
+        [0; 4],
+        "invalid run (longer than the pixels left)",
+    );
+}
+
+#[test]
+fn bytes_after_marker() {
+    let mut bytes = message(1, 3, &[0xc0]);
+    bytes.push(0);
+    assert_eq!(decode_to_vec(&bytes).unwrap().1, [0; 3]);
+    is(
+        strict(bytes).unwrap_err(),
+        Error::BytesAfterMarker,
+        11,
+        [0; 4],
+        "invalid length (bytes after the stream end marker)",
+    );
+}
+
+#[test]
+fn figures_of_any_size_have_words() {
+    let (size, required) = (usize::MAX, usize::MAX);
+    let (width, height) = (u32::MAX, u32::MAX);
+    for (error, words) in [
+        (
+            Error::OutputBufferTooSmall { size, required },
+            "output buffer size too small: 18446744073709551615 (required: 18446744073709551615)",
+        ),
+        (
+            Error::InvalidImageLength {
+                size,
+                width,
+                height,
+            },
+            "invalid image length: 18446744073709551615 bytes for 4294967295x4294967295",
+        ),
+        (
+            Error::InvalidMagic { magic: u32::MAX },
+            "invalid magic: expected 1903126886, got [255, 255, 255, 255]",
+        ),
+    ] {
+        assert_eq!(error.to_string(), words);
+    }
+}
+
+/// What is decided in Rust, since the shape asks for it, is held to the proved reading of a header.
+#[test]
+fn rust_decides_as_the_proved_header() {
+    for byte in 0..=255 {
+        let read = decode_header(header(b"qoif", 1, 1, byte, 0));
+        assert_eq!(Channels::try_from(byte), read.map(|header| header.channels));
+        let read = decode_header(header(b"qoif", 1, 1, 3, byte));
+        assert_eq!(
+            ColorSpace::try_from(byte),
+            read.map(|header| header.colorspace)
+        );
+    }
+    let edges = [
+        0,
+        1,
+        2,
+        19_999,
+        20_000,
+        20_001,
+        399_999_999,
+        400_000_000,
+        400_000_001,
+        u32::MAX,
+    ];
+    for width in edges {
+        for height in edges {
+            let made = Header::try_new(width, height, Channels::Rgba, ColorSpace::Linear);
+            assert_eq!(made, decode_header(header(b"qoif", width, height, 4, 1)));
+            let pixels = u64::from(width) * u64::from(height);
+            assert_eq!(made.is_ok(), (1..=400_000_000).contains(&pixels));
+        }
+    }
+}
