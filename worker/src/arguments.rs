@@ -1,0 +1,268 @@
+//! The worker's arguments.
+use crate::decode::Job;
+use crate::failure::Failure;
+use pivotshade::{Channels, ColorSpace};
+use std::ffi::OsString;
+use std::path::PathBuf;
+use std::str::FromStr;
+
+/// What the worker takes.
+pub const USAGE: &str = "\
+usage: worker encode PIXELS MESSAGE --width W --height H [--linear]
+       worker decode MESSAGE OUTPUT --record FILE [--every N] [--channels 3|4] [--restart]
+       worker check MESSAGE
+
+encode  PIXELS holds W x H pixels of 3 or 4 bytes each; --linear says that their colour space is linear.
+decode  writes the pixels of MESSAGE to OUTPUT, and how far it is to FILE, every N steps (16777216 where none are given). It may be killed
+        at any instant: the same command goes on from there. --restart passes over what FILE holds. FILE stays after the end.
+check   accepts what decodes with no run past the image and nothing after the end: width, height, channels, colour space, chunks, bytes.
+
+exit status: 0, or the number of the refusal, which stands in words on standard error (1 to 11; 9 is the record's), or 64 for wrong
+arguments, or 74 for a file that cannot be read or written.";
+
+/// Steps between two records where none are given: about a tenth of a second's work.
+const EVERY: u64 = 1 << 24;
+
+/// What to do.
+#[derive(Debug, PartialEq, Eq)]
+pub enum Command {
+    /// Print the usage.
+    Help,
+    /// Encode pixels.
+    Encode {
+        /// Their path.
+        pixels: PathBuf,
+        /// The path of the message.
+        message: PathBuf,
+        /// Pixels in a row.
+        width: u32,
+        /// Rows.
+        height: u32,
+        /// Their colour space.
+        colorspace: ColorSpace,
+    },
+    /// Decode a message.
+    Decode(Job),
+    /// Check a message.
+    Check {
+        /// Its path.
+        message: PathBuf,
+    },
+}
+
+/// The command of these arguments, the program's name not among them.
+pub fn parse(arguments: impl IntoIterator<Item = OsString>) -> Result<Command, Failure> {
+    let mut given = Given::of(arguments)?;
+    let command = match given.command.as_str() {
+        "help" | "--help" | "-h" => return Ok(Command::Help),
+        "encode" => Command::Encode {
+            width: given.number("--width")?.ok_or_else(|| missing("--width"))?,
+            height: given
+                .number("--height")?
+                .ok_or_else(|| missing("--height"))?,
+            colorspace: match given.flag("--linear") {
+                true => ColorSpace::Linear,
+                false => ColorSpace::Srgb,
+            },
+            pixels: given.path("PIXELS")?,
+            message: given.path("MESSAGE")?,
+        },
+        "decode" => Command::Decode(Job {
+            record: given
+                .value("--record")
+                .ok_or_else(|| missing("--record"))?
+                .into(),
+            every: match given.number("--every")? {
+                Some(0) => return Err(Failure::usage("--every takes a number from 1 on")),
+                Some(every) => every,
+                None => EVERY,
+            },
+            channels: match given.number::<u64>("--channels")? {
+                None => None,
+                Some(3) => Some(Channels::Rgb),
+                Some(4) => Some(Channels::Rgba),
+                Some(_) => return Err(Failure::usage("--channels takes 3 or 4")),
+            },
+            restart: given.flag("--restart"),
+            message: given.path("MESSAGE")?,
+            output: given.path("OUTPUT")?,
+        }),
+        "check" => Command::Check {
+            message: given.path("MESSAGE")?,
+        },
+        other => return Err(Failure::usage(format!("there is no command {other}"))),
+    };
+    given.nothing_left()?;
+    Ok(command)
+}
+
+fn missing(what: &str) -> Failure {
+    Failure::usage(format!("{what} is missing"))
+}
+
+/// Options that take a value, and those that take none.
+const WITH_VALUE: [&str; 5] = ["--width", "--height", "--record", "--every", "--channels"];
+const ALONE: [&str; 2] = ["--linear", "--restart"];
+
+/// The arguments, sorted; each is taken out as it is used.
+struct Given {
+    command: String,
+    paths: Vec<OsString>,
+    values: Vec<(String, OsString)>,
+    flags: Vec<String>,
+}
+
+impl Given {
+    fn of(arguments: impl IntoIterator<Item = OsString>) -> Result<Self, Failure> {
+        let mut arguments = arguments.into_iter();
+        let command = arguments.next().ok_or_else(|| missing("the command"))?;
+        let mut given = Self {
+            command: command.to_string_lossy().into_owned(),
+            paths: Vec::new(),
+            values: Vec::new(),
+            flags: Vec::new(),
+        };
+        while let Some(argument) = arguments.next() {
+            let word = argument.to_string_lossy().into_owned();
+            if word == "--" {
+                given.paths.extend(arguments.by_ref());
+            } else if WITH_VALUE.contains(&word.as_str()) {
+                let value = arguments.next();
+                let value = value.ok_or_else(|| missing(&format!("what {word} takes")))?;
+                given.values.push((word, value));
+            } else if ALONE.contains(&word.as_str()) {
+                given.flags.push(word);
+            } else if word.starts_with('-') {
+                return Err(Failure::usage(format!("there is no option {word}")));
+            } else {
+                given.paths.push(argument);
+            }
+        }
+        Ok(given)
+    }
+
+    fn path(&mut self, what: &str) -> Result<PathBuf, Failure> {
+        match self.paths.is_empty() {
+            true => Err(missing(what)),
+            false => Ok(self.paths.remove(0).into()),
+        }
+    }
+
+    fn value(&mut self, option: &str) -> Option<OsString> {
+        let place = self.values.iter().position(|(name, _)| name == option)?;
+        Some(self.values.remove(place).1)
+    }
+
+    fn number<T: FromStr>(&mut self, option: &str) -> Result<Option<T>, Failure> {
+        let value = match self.value(option) {
+            Some(value) => value,
+            None => return Ok(None),
+        };
+        match value.to_string_lossy().parse() {
+            Ok(number) => Ok(Some(number)),
+            Err(_) => Err(Failure::usage(format!("{option} takes a number"))),
+        }
+    }
+
+    fn flag(&mut self, option: &str) -> bool {
+        let place = self.flags.iter().position(|name| name == option);
+        place.map(|place| self.flags.remove(place)).is_some()
+    }
+
+    fn nothing_left(self) -> Result<(), Failure> {
+        let paths = self
+            .paths
+            .into_iter()
+            .map(|path| path.to_string_lossy().into_owned());
+        let options = self.values.into_iter().map(|(name, _)| name);
+        match paths.chain(options).chain(self.flags).next() {
+            Some(left) => Err(Failure::usage(format!(
+                "{} does not take {left}",
+                self.command
+            ))),
+            None => Ok(()),
+        }
+    }
+}
+
+#[cfg(test)]
+mod tests {
+    use super::*;
+
+    fn parsed(line: &str) -> Result<Command, Failure> {
+        parse(line.split_whitespace().map(OsString::from))
+    }
+
+    fn words(line: &str) -> String {
+        let failure = parsed(line).expect_err(line);
+        assert_eq!(failure.status(), 64, "{line}");
+        failure.to_string()
+    }
+
+    #[test]
+    fn options_stand_anywhere() {
+        let job = Job {
+            message: "m".into(),
+            output: "o".into(),
+            record: "r".into(),
+            every: 10,
+            channels: Some(Channels::Rgb),
+            restart: true,
+        };
+        let line = "decode --every 10 m --record r --restart o --channels 3";
+        assert_eq!(parsed(line), Ok(Command::Decode(job.clone())));
+        let plain = Job {
+            every: EVERY,
+            channels: None,
+            restart: false,
+            ..job
+        };
+        assert_eq!(parsed("decode m o --record r"), Ok(Command::Decode(plain)));
+        assert_eq!(
+            parsed("encode p m --width 2 --height 3 --linear"),
+            Ok(Command::Encode {
+                pixels: "p".into(),
+                message: "m".into(),
+                width: 2,
+                height: 3,
+                colorspace: ColorSpace::Linear,
+            })
+        );
+        let dashes = Command::Check {
+            message: "--m".into(),
+        };
+        assert_eq!(parsed("check -- --m"), Ok(dashes));
+        assert_eq!(parsed("--help"), Ok(Command::Help));
+    }
+
+    #[test]
+    fn wrong_arguments_are_named() {
+        assert_eq!(words(""), "the command is missing");
+        assert_eq!(words("recode m"), "there is no command recode");
+        assert_eq!(words("decode m o"), "--record is missing");
+        assert_eq!(words("decode m --record r"), "OUTPUT is missing");
+        assert_eq!(
+            words("decode m o --record"),
+            "what --record takes is missing"
+        );
+        assert_eq!(
+            words("decode m o --record r --every 0"),
+            "--every takes a number from 1 on"
+        );
+        assert_eq!(
+            words("decode m o --record r --every x"),
+            "--every takes a number"
+        );
+        assert_eq!(
+            words("decode m o --record r --channels 5"),
+            "--channels takes 3 or 4"
+        );
+        assert_eq!(words("decode m o p --record r"), "decode does not take p");
+        assert_eq!(words("check m --restart"), "check does not take --restart");
+        assert_eq!(words("check m --wrong"), "there is no option --wrong");
+        assert_eq!(
+            words("encode p m --width 4294967296 --height 1"),
+            "--width takes a number"
+        );
+    }
+}

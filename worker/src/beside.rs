@@ -1,0 +1,56 @@
+//! A small file replaced as a whole: written beside, flushed, renamed, its folder flushed. At every instant it has its old bytes or its new ones.
+use crate::disk::{folder, Disk};
+use std::collections::hash_map::RandomState;
+use std::ffi::OsString;
+use std::hash::{BuildHasher, Hasher};
+use std::io::{self, ErrorKind};
+use std::os::unix::ffi::OsStrExt;
+use std::path::Path;
+
+/// How the name of a file that was written beside ends.
+const ENDING: &str = ".beside";
+
+/// Replaces the bytes of the file at `path`, which need not be there.
+pub fn replace<D: Disk>(disk: &D, path: &Path, bytes: &[u8]) -> io::Result<()> {
+    loop {
+        let beside = write_beside(disk, path, bytes)?;
+        match disk.rename(beside.as_ref(), path) {
+            // a worker that ended has swept it away: write it again
+            Err(error) if error.kind() == ErrorKind::NotFound => continue,
+            renamed => renamed?,
+        }
+        return disk.flush_folder(folder(path));
+    }
+}
+
+/// Writes the bytes to a new file, and makes them last: its path.
+fn write_beside<D: Disk>(disk: &D, path: &Path, bytes: &[u8]) -> io::Result<OsString> {
+    let beside = name_beside(path);
+    let file = disk.make(beside.as_ref())?;
+    disk.write_at(&file, bytes, 0)?;
+    disk.flush(&file)?;
+    Ok(beside)
+}
+
+/// A name that nobody else takes: not even one that was swept away comes again, for its first owner would rename what the second has half written.
+fn name_beside(path: &Path) -> OsString {
+    let random = RandomState::new().build_hasher().finish();
+    let mut name = path.as_os_str().to_owned();
+    name.push(format!(".{random:016x}{ENDING}"));
+    name
+}
+
+/// Removes what killed workers left beside the file at `path`. A live one whose file it removes writes it again.
+pub fn sweep<D: Disk>(disk: &D, path: &Path) -> io::Result<()> {
+    let name = path.file_name().unwrap_or_default().as_bytes();
+    let start = [name, b"."].concat();
+    for name in disk.names(folder(path))? {
+        if name.as_bytes().starts_with(&start) && name.as_bytes().ends_with(ENDING.as_bytes()) {
+            match disk.remove(&folder(path).join(&name)) {
+                Err(error) if error.kind() != ErrorKind::NotFound => return Err(error),
+                _ => {}
+            }
+        }
+    }
+    Ok(())
+}

@@ -1,0 +1,105 @@
+//! What the worker asks of a disk: the few calls that a decode and its record rest on. docs/PROMISES.md says what is assumed of them.
+use std::ffi::OsString;
+use std::fs::{self, File, OpenOptions};
+use std::io;
+use std::os::unix::fs::FileExt;
+use std::path::Path;
+
+/// A disk. What is written shows at once, and lasts from the next flush on.
+pub trait Disk {
+    /// An open file.
+    type File;
+    /// Opens a file that is there, to write at places; what it holds stays.
+    fn open(&self, path: &Path) -> io::Result<Self::File>;
+    /// The same, of a file that is made, empty, where it is missing.
+    fn open_or_make(&self, path: &Path) -> io::Result<Self::File>;
+    /// Makes a file; one that is there already is an error.
+    fn make(&self, path: &Path) -> io::Result<Self::File>;
+    /// A file's length.
+    fn length(&self, file: &Self::File) -> io::Result<u64>;
+    /// Cuts a file off, or makes it longer by zeros.
+    fn set_length(&self, file: &Self::File, length: u64) -> io::Result<()>;
+    /// Writes all bytes from a place on.
+    fn write_at(&self, file: &Self::File, bytes: &[u8], place: u64) -> io::Result<()>;
+    /// Makes a file's bytes and length last.
+    fn flush(&self, file: &Self::File) -> io::Result<()>;
+    /// A file's bytes.
+    fn read(&self, path: &Path) -> io::Result<Vec<u8>>;
+    /// Gives a file another name in the same folder, at one instant; what had that name before loses it.
+    fn rename(&self, from: &Path, to: &Path) -> io::Result<()>;
+    /// Takes a file's name away.
+    fn remove(&self, path: &Path) -> io::Result<()>;
+    /// The names in a folder.
+    fn names(&self, folder: &Path) -> io::Result<Vec<OsString>>;
+    /// Makes a folder's names last.
+    fn flush_folder(&self, folder: &Path) -> io::Result<()>;
+}
+
+/// The folder that a path names a file of.
+pub fn folder(path: &Path) -> &Path {
+    match path.parent() {
+        Some(folder) if folder != Path::new("") => folder,
+        _ => Path::new("."),
+    }
+}
+
+/// The operating system's files.
+pub struct RealDisk;
+
+impl Disk for RealDisk {
+    type File = File;
+
+    fn open(&self, path: &Path) -> io::Result<File> {
+        OpenOptions::new().write(true).open(path)
+    }
+
+    fn open_or_make(&self, path: &Path) -> io::Result<File> {
+        OpenOptions::new()
+            .write(true)
+            .create(true)
+            .truncate(false)
+            .open(path)
+    }
+
+    fn make(&self, path: &Path) -> io::Result<File> {
+        OpenOptions::new().write(true).create_new(true).open(path)
+    }
+
+    fn length(&self, file: &File) -> io::Result<u64> {
+        Ok(file.metadata()?.len())
+    }
+
+    fn set_length(&self, file: &File, length: u64) -> io::Result<()> {
+        file.set_len(length)
+    }
+
+    fn write_at(&self, file: &File, bytes: &[u8], place: u64) -> io::Result<()> {
+        file.write_all_at(bytes, place)
+    }
+
+    fn flush(&self, file: &File) -> io::Result<()> {
+        file.sync_data()
+    }
+
+    fn read(&self, path: &Path) -> io::Result<Vec<u8>> {
+        fs::read(path)
+    }
+
+    fn rename(&self, from: &Path, to: &Path) -> io::Result<()> {
+        fs::rename(from, to)
+    }
+
+    fn remove(&self, path: &Path) -> io::Result<()> {
+        fs::remove_file(path)
+    }
+
+    fn names(&self, folder: &Path) -> io::Result<Vec<OsString>> {
+        fs::read_dir(folder)?
+            .map(|entry| entry.map(|entry| entry.file_name()))
+            .collect()
+    }
+
+    fn flush_folder(&self, folder: &Path) -> io::Result<()> {
+        File::open(folder)?.sync_all()
+    }
+}

@@ -1,0 +1,72 @@
+//! Why the worker ended with another status than 0, in words and as that status.
+use pivotshade::Error;
+use std::fmt;
+use std::io;
+use std::path::Path;
+
+/// The number of the refusal of a record.
+const BAD_RECORD: u8 = 9;
+/// The operating system's usual status for arguments that are wrong.
+const USAGE: u8 = 64;
+/// That for a file that cannot be read or written.
+const DISK: u8 = 74;
+
+/// A status other than 0, and its words.
+#[derive(Debug, PartialEq, Eq)]
+pub struct Failure {
+    status: u8,
+    words: String,
+}
+
+impl Failure {
+    /// The arguments are wrong.
+    pub fn usage(words: impl Into<String>) -> Self {
+        Self {
+            status: USAGE,
+            words: words.into(),
+        }
+    }
+
+    /// What the file at `path` holds is refused.
+    pub fn refused(path: &Path, error: Error) -> Self {
+        Self {
+            status: error.number() as u8,
+            words: format!("{}: {error}", path.display()),
+        }
+    }
+
+    /// The record, or the output that it speaks of, is not what a worker left.
+    pub fn bad_record(path: &Path, words: &str) -> Self {
+        Self {
+            status: BAD_RECORD,
+            words: format!("{}: {words}; --restart begins anew", path.display()),
+        }
+    }
+
+    /// The file at `path` cannot be served.
+    pub fn no_memory(path: &Path, length: usize) -> Self {
+        Self {
+            status: DISK,
+            words: format!("{}: no memory for its {length} bytes", path.display()),
+        }
+    }
+
+    /// What was to be done with the file at `path` failed.
+    pub fn disk<'a>(doing: &'a str, path: &'a Path) -> impl FnOnce(io::Error) -> Self + 'a {
+        move |error| Self {
+            status: DISK,
+            words: format!("{}: cannot {doing}: {error}", path.display()),
+        }
+    }
+
+    /// The exit status: the number of a refusal, 64 or 74.
+    pub fn status(&self) -> u8 {
+        self.status
+    }
+}
+
+impl fmt::Display for Failure {
+    fn fmt(&self, f: &mut fmt::Formatter) -> fmt::Result {
+        f.write_str(&self.words)
+    }
+}

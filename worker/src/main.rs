@@ -1,0 +1,87 @@
+//! The worker: `./worker` at the root builds and runs it. What it does stands in `arguments::USAGE`.
+use pivotshade::{strict, Encoder};
+use std::env;
+use std::fs;
+use std::path::{Path, PathBuf};
+use std::process::ExitCode;
+use worker::arguments::{parse, Command, USAGE};
+use worker::beside;
+use worker::decode::decode;
+use worker::disk::{folder, Disk, RealDisk};
+use worker::failure::Failure;
+use worker::progress::Bar;
+
+fn main() -> ExitCode {
+    match parse(env::args_os().skip(1)).and_then(carry_out) {
+        Ok(()) => ExitCode::SUCCESS,
+        Err(failure) => {
+            eprintln!("worker: {failure}");
+            ExitCode::from(failure.status())
+        }
+    }
+}
+
+fn carry_out(command: Command) -> Result<(), Failure> {
+    match command {
+        Command::Help => println!("{USAGE}"),
+        Command::Encode {
+            pixels,
+            message,
+            width,
+            height,
+            colorspace,
+        } => {
+            let data = read(&pixels)?;
+            let encoded = Encoder::new(&data, width, height)
+                .and_then(|encoder| encoder.with_colorspace(colorspace).encode_to_vec())
+                .map_err(|error| Failure::refused(&pixels, error))?;
+            beside::replace(&RealDisk, &message, &encoded)
+                .map_err(Failure::disk("write", &message))?;
+        }
+        Command::Decode(job) => {
+            are_different(&[&job.message, &job.output, &job.record])?;
+            let mut bar = Bar::new();
+            decode(&RealDisk, &job, &mut |record| bar.show(record))?;
+        }
+        Command::Check { message } => {
+            let checked =
+                strict(read(&message)?).map_err(|error| Failure::refused(&message, error))?;
+            let header = checked.header;
+            println!(
+                "ok {} {} {} {} {} {}",
+                header.width,
+                header.height,
+                header.channels.as_u8(),
+                header.colorspace.as_u8(),
+                checked.chunks,
+                checked.bytes
+            );
+        }
+    }
+    Ok(())
+}
+
+fn read(path: &Path) -> Result<Vec<u8>, Failure> {
+    RealDisk.read(path).map_err(Failure::disk("read", path))
+}
+
+/// Whether no two of these paths name one file, which would be written over.
+fn are_different(paths: &[&PathBuf]) -> Result<(), Failure> {
+    for (place, path) in paths.iter().enumerate() {
+        if paths[..place].iter().any(|other| real(other) == real(path)) {
+            return Err(Failure::usage(format!("{} is given twice", path.display())));
+        }
+    }
+    Ok(())
+}
+
+/// A path with no links in it; the file need not be there.
+fn real(path: &Path) -> PathBuf {
+    let whole = fs::canonicalize(path);
+    whole.unwrap_or_else(
+        |_| match (fs::canonicalize(folder(path)), path.file_name()) {
+            (Ok(folder), Some(name)) => folder.join(name),
+            _ => path.to_owned(),
+        },
+    )
+}

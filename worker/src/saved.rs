@@ -1,0 +1,99 @@
+//! What stands in the record's file: the record's bytes, a sum over the message, and a sum over both, eight bytes each, the lowest first. So a
+//! record that was damaged, or saved for another message, is told from a good one, which the record alone cannot do.
+use pivotshade::Record;
+
+/// Bytes of a sum.
+const SUM: usize = 8;
+
+/// The file's bytes, for a record and the sum of its message.
+pub fn to_bytes(record: &Record, message_sum: u64) -> Vec<u8> {
+    let mut bytes = record.as_bytes().to_vec();
+    bytes.extend(message_sum.to_le_bytes());
+    bytes.extend(sum(&bytes).to_le_bytes());
+    bytes
+}
+
+/// The record and the sum of its message; none where a byte of the file is not what was written.
+pub fn from_bytes(bytes: &[u8]) -> Option<(Record, u64)> {
+    let (summed, all_sum) = split_sum(bytes)?;
+    let (record, message_sum) = split_sum(summed)?;
+    if sum(summed) != all_sum {
+        return None;
+    }
+    Some((Record::from_bytes(record).ok()?, message_sum))
+}
+
+/// What stands before a sum at the end, and that sum.
+fn split_sum(bytes: &[u8]) -> Option<(&[u8], u64)> {
+    let (before, sum) = bytes.split_at(bytes.len().checked_sub(SUM)?);
+    Some((before, u64::from_le_bytes(sum.try_into().ok()?)))
+}
+
+/// A sum of 64 bits. Bytes of one length that differ within one word of eight have different sums; others have the same one by chance alone.
+pub fn sum(bytes: &[u8]) -> u64 {
+    // four lanes, so that one multiplication need not wait for another
+    let mut lanes = [1, 2, 3, 4];
+    let mut blocks = bytes.chunks_exact(SUM * lanes.len());
+    for block in &mut blocks {
+        for (lane, word) in lanes.iter_mut().zip(block.chunks_exact(SUM)) {
+            *lane = mixed(
+                *lane,
+                u64::from_le_bytes(word.try_into().expect("eight bytes")),
+            );
+        }
+    }
+    let mut all = lanes.into_iter().fold(bytes.len() as u64, mixed);
+    for word in blocks.remainder().chunks(SUM) {
+        let mut padded = [0; SUM];
+        padded[..word.len()].copy_from_slice(word);
+        all = mixed(all, u64::from_le_bytes(padded));
+    }
+    all
+}
+
+/// Each step is undone by another one, so another word, or another sum so far, gives another sum.
+fn mixed(so_far: u64, word: u64) -> u64 {
+    let product = (so_far ^ word).wrapping_mul(0x9e37_79b9_7f4a_7c15);
+    product ^ (product >> 32)
+}
+
+#[cfg(test)]
+mod tests {
+    use super::*;
+    use pivotshade::{encode_to_vec, start, Channels};
+
+    #[test]
+    fn one_changed_bit_is_seen() {
+        let message = encode_to_vec([1, 2, 3, 4], 1, 1).unwrap();
+        let record = start(&message, Channels::Rgba).unwrap();
+        let good = to_bytes(&record, sum(&message));
+        assert_eq!(from_bytes(&good), Some((record, sum(&message))));
+        for bit in 0..8 * good.len() {
+            let mut bad = good.clone();
+            bad[bit / 8] ^= 1 << (bit % 8);
+            assert_eq!(from_bytes(&bad), None, "bit {bit}");
+        }
+        for length in 0..good.len() {
+            assert_eq!(from_bytes(&good[..length]), None, "{length} bytes");
+        }
+        let longer = [&good[..], &[0]].concat();
+        assert_eq!(from_bytes(&longer), None);
+    }
+
+    #[test]
+    fn sums_differ_for_each_bit_and_length() {
+        let bytes = [0; 100];
+        let mut sums: Vec<u64> = (0..=bytes.len())
+            .map(|length| sum(&bytes[..length]))
+            .collect();
+        for bit in 0..8 * bytes.len() {
+            let mut other = bytes;
+            other[bit / 8] = 1 << (bit % 8);
+            sums.push(sum(&other));
+        }
+        let all = sums.len();
+        sums.sort_unstable();
+        sums.dedup();
+        assert_eq!(sums.len(), all);
+    }
+}

@@ -1,0 +1,305 @@
+// The program as a user calls it: statuses, words, and what stands in the files after each answer.
+use pivotshade::{encode_to_vec, Channels, Decoder};
+use std::env;
+use std::fs;
+use std::path::PathBuf;
+use std::process::{self, Command};
+use worker::saved;
+
+/// A folder of the test's own, removed at its end.
+struct Folder(PathBuf);
+
+impl Folder {
+    fn new(test: &str) -> Self {
+        let path = env::temp_dir().join(format!("worker-{}-{test}", process::id()));
+        fs::create_dir(&path).unwrap();
+        Self(path)
+    }
+
+    fn path(&self, name: &str) -> PathBuf {
+        self.0.join(name)
+    }
+
+    fn write(&self, name: &str, bytes: &[u8]) {
+        fs::write(self.path(name), bytes).unwrap();
+    }
+
+    fn read(&self, name: &str) -> Vec<u8> {
+        fs::read(self.path(name)).unwrap()
+    }
+
+    fn names(&self) -> Vec<String> {
+        let entries = fs::read_dir(&self.0).unwrap();
+        let mut names: Vec<String> = entries
+            .map(|entry| entry.unwrap().file_name().into_string().unwrap())
+            .collect();
+        names.sort();
+        names
+    }
+
+    /// Runs the worker in the folder: its status, what it printed, and its words.
+    fn worker(&self, line: &str) -> (i32, String, String) {
+        let ran = Command::new(env!("CARGO_BIN_EXE_worker"))
+            .args(line.split_whitespace())
+            .current_dir(&self.0)
+            .output()
+            .unwrap();
+        let text = |bytes| String::from_utf8(bytes).unwrap();
+        (
+            ran.status.code().unwrap(),
+            text(ran.stdout),
+            text(ran.stderr),
+        )
+    }
+
+    /// Runs the worker, which must succeed and say nothing.
+    fn works(&self, line: &str) {
+        assert_eq!(
+            self.worker(line),
+            (0, String::new(), String::new()),
+            "{line}"
+        );
+    }
+
+    /// Runs the worker, which must end with a status and its words.
+    fn refuses(&self, line: &str, status: i32, words: &str) {
+        let words = format!("worker: {words}\n");
+        assert_eq!(self.worker(line), (status, String::new(), words), "{line}");
+    }
+}
+
+impl Drop for Folder {
+    fn drop(&mut self) {
+        let _ = fs::remove_dir_all(&self.0);
+    }
+}
+
+const WIDTH: u32 = 40;
+const HEIGHT: u32 = 30;
+const DECODE: &str = "decode m.qoi out --record rec --every 50";
+
+/// A picture with runs, repeats and changes of each size.
+fn picture() -> Vec<u8> {
+    let pixels = 0..WIDTH * HEIGHT;
+    let pixel = |i: u32| [i / 100, i / 7, i * i / 500, 255 - i / 300].map(|n| n as u8);
+    pixels.flat_map(pixel).collect()
+}
+
+fn message() -> Vec<u8> {
+    encode_to_vec(picture(), WIDTH, HEIGHT).unwrap()
+}
+
+/// A folder with a message whose decode is done.
+fn decoded(test: &str) -> Folder {
+    let folder = Folder::new(test);
+    folder.write("m.qoi", &message());
+    folder.works(DECODE);
+    folder
+}
+
+fn pixels_done(folder: &Folder) -> usize {
+    let (record, _) = saved::from_bytes(&folder.read("rec")).expect("a whole record");
+    record.pixels_done()
+}
+
+#[test]
+fn encodes_checks_and_decodes() {
+    let folder = Folder::new("all");
+    folder.write("px", &picture());
+    folder.works("encode px m.qoi --width 40 --height 30");
+    assert_eq!(folder.read("m.qoi"), message());
+    let (status, line, words) = folder.worker("check m.qoi");
+    let chunks = pivotshade::strict(message()).unwrap().chunks;
+    let expected = format!("ok 40 30 4 0 {chunks} {}\n", message().len());
+    assert_eq!((status, line, words), (0, expected, String::new()));
+    folder.works(DECODE);
+    assert_eq!(folder.read("out"), picture());
+    assert_eq!(folder.names(), ["m.qoi", "out", "px", "rec"]);
+
+    folder.works("encode px linear.qoi --width 40 --height 30 --linear");
+    assert_eq!(folder.read("linear.qoi")[13], 1);
+}
+
+#[test]
+fn decodes_to_other_channels() {
+    let folder = Folder::new("channels");
+    folder.write("m.qoi", &message());
+    folder.works("decode m.qoi out --record rec --channels 3");
+    let message = message();
+    let mut decoder = Decoder::new(&message).unwrap().with_channels(Channels::Rgb);
+    let three = decoder.decode_to_vec().unwrap();
+    assert_eq!(folder.read("out"), three);
+    let words = "rec: the record is of a decode to other channels; --restart begins anew";
+    folder.refuses("decode m.qoi out --record rec", 9, words);
+    folder.works("decode m.qoi out --record rec --restart");
+    assert_eq!(folder.read("out"), picture());
+}
+
+#[test]
+fn a_message_delivered_again_changes_nothing() {
+    let folder = decoded("again");
+    let record = folder.read("rec");
+    assert_eq!(pixels_done(&folder), (WIDTH * HEIGHT) as usize);
+    let written = fs::metadata(folder.path("out"))
+        .unwrap()
+        .modified()
+        .unwrap();
+    folder.works(DECODE);
+    assert_eq!(folder.read("out"), picture());
+    assert_eq!(folder.read("rec"), record);
+    let still = fs::metadata(folder.path("out"))
+        .unwrap()
+        .modified()
+        .unwrap();
+    assert_eq!(written, still);
+}
+
+#[test]
+fn what_stood_in_the_output_does_not_matter() {
+    for (place, length) in [0, 7, 4799, 4800, 4801, 10_000].into_iter().enumerate() {
+        let folder = Folder::new(&format!("stood-{place}"));
+        folder.write("m.qoi", &message());
+        folder.write("out", &vec![0xee; length]);
+        folder.works(DECODE);
+        assert_eq!(folder.read("out"), picture(), "{length} bytes stood there");
+    }
+}
+
+/// A message that is refused leaves the output as an undisturbed decode does, and is refused at once when it comes again.
+fn refused_as_undisturbed(test: &str, message: &[u8], status: i32, words: &str) {
+    let folder = Folder::new(test);
+    let mut undisturbed = vec![0xee; picture().len()];
+    folder.write("m.qoi", message);
+    folder.write("out", &undisturbed);
+    let error = Decoder::new(message)
+        .unwrap()
+        .decode_to_buf(&mut undisturbed)
+        .unwrap_err();
+    assert_eq!(error.number(), status as u64);
+    for _ in 0..2 {
+        folder.refuses(DECODE, status, &format!("m.qoi: {words}"));
+        assert_eq!(folder.read("out"), undisturbed);
+        assert_eq!(folder.names(), ["m.qoi", "out", "rec"]);
+    }
+    let done = pixels_done(&folder) * 4;
+    assert!(undisturbed[..done] == picture()[..done]);
+    assert!(undisturbed[done..].iter().all(|&byte| byte == 0xee));
+}
+
+#[test]
+fn refused_messages() {
+    let whole = message();
+    let ended = "unexpected input buffer end while decoding";
+    for cut in [15, whole.len() / 3, whole.len() / 2 + 1, whole.len() - 9] {
+        refused_as_undisturbed(&format!("cut-{cut}"), &whole[..cut], 1, ended);
+    }
+    let mut marked = whole;
+    *marked.last_mut().unwrap() = 0;
+    refused_as_undisturbed(
+        "marker",
+        &marked,
+        8,
+        "invalid padding (stream end marker mismatch)",
+    );
+}
+
+#[test]
+fn a_refused_header_leaves_no_file() {
+    let folder = Folder::new("header");
+    let mut bytes = message();
+    bytes[12] = 7;
+    folder.write("m.qoi", &bytes);
+    folder.refuses(DECODE, 2, "m.qoi: invalid number of channels: 7");
+    folder.refuses("check m.qoi", 2, "m.qoi: invalid number of channels: 7");
+    assert_eq!(folder.names(), ["m.qoi"]);
+}
+
+#[test]
+fn a_damaged_record_is_refused_and_restarted() {
+    let words = "rec: the record is damaged; --restart begins anew";
+    let good = decoded("damaged-good").read("rec");
+    let mut flipped = good.clone();
+    flipped[100] ^= 4;
+    for (place, bad) in [&flipped, &good[1..], &good[..good.len() - 1], b""]
+        .into_iter()
+        .enumerate()
+    {
+        let folder = decoded(&format!("damaged-{place}"));
+        folder.write("rec", bad);
+        folder.write("out", &[0xee; 4800]);
+        folder.refuses(DECODE, 9, words);
+        assert_eq!(folder.read("out"), [0xee; 4800]);
+        assert_eq!(folder.read("rec"), bad);
+        folder.works(&format!("{DECODE} --restart"));
+        assert_eq!(folder.read("out"), picture());
+        assert_eq!(folder.read("rec"), good);
+    }
+}
+
+#[test]
+fn a_record_of_another_message_is_refused() {
+    let folder = decoded("another");
+    let mut other = message();
+    other.push(0);
+    folder.write("m.qoi", &other);
+    folder.refuses(
+        DECODE,
+        9,
+        "rec: the record is of another message; --restart begins anew",
+    );
+    assert_eq!(folder.read("out"), picture());
+}
+
+#[test]
+fn an_output_that_is_gone_is_refused() {
+    let folder = decoded("gone");
+    fs::remove_file(folder.path("out")).unwrap();
+    let words = "out: the output is not there, though its record is; --restart begins anew";
+    folder.refuses(DECODE, 9, words);
+    folder.write("out", &[0; 4799]);
+    let words = "out: the output has another length than its record says; --restart begins anew";
+    folder.refuses(DECODE, 9, words);
+    folder.works(&format!("{DECODE} --restart"));
+    assert_eq!(folder.read("out"), picture());
+}
+
+#[test]
+fn what_killed_workers_left_beside_the_record_goes() {
+    let folder = Folder::new("beside");
+    folder.write("m.qoi", &message());
+    folder.write("rec.0123456789abcdef.beside", b"half");
+    folder.write("record.0123456789abcdef.beside", b"of another record");
+    folder.works(DECODE);
+    let names = ["m.qoi", "out", "rec", "record.0123456789abcdef.beside"];
+    assert_eq!(folder.names(), names);
+}
+
+#[test]
+fn wrong_arguments_and_files() {
+    let folder = Folder::new("wrong");
+    folder.write("m.qoi", &message());
+    folder.refuses(
+        "decode m.qoi m.qoi --record rec",
+        64,
+        "m.qoi is given twice",
+    );
+    folder.refuses(
+        "decode m.qoi out --record ./out",
+        64,
+        "./out is given twice",
+    );
+    let none = "none: cannot read: No such file or directory (os error 2)";
+    folder.refuses("decode none out --record rec", 74, none);
+    folder.refuses("check none", 74, none);
+    let (status, _, words) = folder.worker("decode m.qoi none/out --record rec");
+    assert_eq!(
+        (status, words.starts_with("worker: none/out: cannot make: ")),
+        (74, true)
+    );
+    let (status, usage, words) = folder.worker("--help");
+    assert_eq!(
+        (status, usage.starts_with("usage: "), words),
+        (0, true, String::new())
+    );
+    assert_eq!(folder.names(), ["m.qoi"]);
+}
