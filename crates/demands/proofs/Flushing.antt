@@ -20,8 +20,30 @@ use Rattle.demands.proofs.TakeOver.{readable, lived, take-over}
 
 module _ (m : List ℕ) (w : ℕ) where
   -- an output has the whole reading's bytes before a state's pixel
-  abbrev Stands : State → List ℕ → Type 0
+  abbrev pub Stands : State → List ℕ → Type 0
   Stands t x = take (bytesBefore t) x ≡ take (bytesBefore t) (whole m w .bytes)
+
+  -- what a crash leaves will do for each record saved for which every output will do that may come back
+  pub torn-stands :
+      (o o′ : List ℕ) (since : List (List ℕ)) (saved : List State) → Torn o since saved o′ → (t : State) → List·Memᴰ t saved
+      → ((x : List ℕ) → List·Memᴰ x (o ∷ since) → Stands t x) → Stands t o′
+  torn-stands o o′ since saved torn t is stands =
+      ext-getD 0 (take n o′) (take n (whole m w .bytes))
+      (simp length-take (omega (arith, torn .same-length, simp length-take at (ap length (stands o (List·Memᴰ·head refl))))))
+      (λ i h. go i (omega (arith, simp length-take at h)) (torn .each i))
+    where
+      n : ℕ
+      n = bytesBefore t
+
+      go :
+          (i : ℕ) → i < n → Shown (o ∷ since) i (getD o′ i 0) ⊎ ((r : State) → List·Memᴰ r saved → bytesBefore r ≤ i)
+          → getD (take n o′) i 0 ≡ getD (take n (whole m w .bytes)) i 0
+      go i h (inl shown) =
+          getD-take n o′ i 0 h
+          ∙ shown .2
+          ∙ sym (getD-take n (shown .0) i 0 h)
+          ∙ ap (λ (l : List ℕ). getD l i 0) (stands (shown .0) (shown .1))
+      go i h (inr later) = absurd (omega (arith, later t is))
 
   -- a state that a history of demand 3 has reached, for which each of some outputs will do
   record Sure (outputs : List (List ℕ)) (t : State) : Type 0 where
@@ -102,34 +124,15 @@ module _ (m : List ℕ) (w : ℕ) where
 
     module _ (o′ : List ℕ) (torn : Torn o since saved o′) where
       -- what a crash leaves will do for each record saved
-      torn-stands : (t : State) → List·Memᴰ t saved → Stands t o′
-      torn-stands t is =
-          ext-getD 0 (take n o′) (take n (whole m w .bytes))
-          (simp length-take (omega (arith, torn .same-length, simp length-take at (ap length (a .stands o (List·Memᴰ·head refl))))))
-          (λ i h. go i (omega (arith, simp length-take at h)) (torn .each i))
-        where
-          n : ℕ
-          n = bytesBefore t
-
-          a : Sure (o ∷ since) t
-          a = k .sure t (List·Memᴰ·tail is)
-
-          go :
-              (i : ℕ) → i < n → Shown (o ∷ since) i (getD o′ i 0) ⊎ ((r : State) → List·Memᴰ r saved → bytesBefore r ≤ i)
-              → getD (take n o′) i 0 ≡ getD (take n (whole m w .bytes)) i 0
-          go i h (inl shown) =
-              getD-take n o′ i 0 h
-              ∙ shown .2
-              ∙ sym (getD-take n (shown .0) i 0 h)
-              ∙ ap (λ (l : List ℕ). getD l i 0) (a .stands (shown .0) (shown .1))
-          go i h (inr later) = absurd (omega (arith, later t is))
+      stands-torn : (t : State) → List·Memᴰ t saved → Stands t o′
+      stands-torn t is = torn-stands o o′ since saved torn t is (k .sure t (List·Memᴰ·tail is) .stands)
 
       -- so a record saved may be taken up on it, as demand 3 has it
       torn-life : (r : State) → List·Memᴰ r saved → Life m w r o′ o′
       torn-life r is =
           let a = k .sure r (List·Memᴰ·tail is) in
           let l = lived (a .life) in
-          life.taken-up (a .life) o′ (torn-stands r is ∙ sym (l .holds .before)) (readable r (l .on-course))
+          life.taken-up (a .life) o′ (stands-torn r is ∙ sym (l .holds .before)) (readable r (l .on-course))
 
       kept-taken-up : (r s′ : State) → List·Memᴰ r saved → readRecord (recordBytes r) ≡ started s′ → Kept s′ o′ o′ (o ∷ since) s′ saved
       kept-taken-up r s′ is e =
@@ -137,7 +140,7 @@ module _ (m : List ℕ) (w : ℕ) where
           rw (← same) (record { life = torn-life r is; sure = λ t at. go t (List·Memᴰ·cases-cons at) })
         where
           among : (t : State) → List·Memᴰ t saved → Sure (o′ ∷ o ∷ since) t
-          among t at = sure-cons o′ (o ∷ since) t (k .sure t (List·Memᴰ·tail at)) (torn-stands t at)
+          among t at = sure-cons o′ (o ∷ since) t (k .sure t (List·Memᴰ·tail at)) (stands-torn t at)
 
           go : (t : State) → (t ≡ r) ⊎ List·Memᴰ t saved → Sure (o′ ∷ o ∷ since) t
           go t (inl e) = rw e (among r is)

@@ -6,6 +6,7 @@ pub mod TakeOver
 pub mod Partly
 pub mod Workers
 pub mod Flushing
+pub mod Sharing
 pub mod Worked
 pub mod Written
 pub mod Inside

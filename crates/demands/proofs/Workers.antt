@@ -19,33 +19,33 @@ use Rattle.demands.proofs.Held.{Held, ends-as-uncut, goes-as-uncut}
 use Rattle.demands.proofs.Partly.{held-partly}
 use Rattle.demands.proofs.TakeOver.{readable}
 
--- each of some states
-abbrev All : (State → Type 0) → List State → Type 0
+-- each of some
+abbrev pub All : {A : Type 0} → (A → Type 0) → List A → Type 0
 All P [] = Unit {0}
-All P (s ∷ ss) = P s × All P ss
+All P (x ∷ xs) = P x × All P xs
 
 -- one of them
-all-at : (P : State → Type 0) (left right : List State) (s : State) → All P (left ++ (s ∷ right)) → P s
-all-at P [] right s all = all .0
-all-at P (x ∷ left) right s all = all-at P left right s (all .1)
+pub all-at : {A : Type 0} (P : A → Type 0) (left right : List A) (x : A) → All P (left ++ (x ∷ right)) → P x
+all-at P [] right x all = all .0
+all-at P (y ∷ left) right x all = all-at P left right x (all .1)
 
 -- all of them, by what each has
-all-map : (P Q : State → Type 0) → ((s : State) → P s → Q s) → (ss : List State) → All P ss → All Q ss
+pub all-map : {A : Type 0} (P Q : A → Type 0) → ((x : A) → P x → Q x) → (xs : List A) → All P xs → All Q xs
 all-map P Q f [] all = tt
-all-map P Q f (s ∷ ss) all = (f s (all .0), all-map P Q f ss (all .1))
+all-map P Q f (x ∷ xs) all = (f x (all .0), all-map P Q f xs (all .1))
 
 -- all of them, with another in the place of one
-all-but :
-    (P : State → Type 0) (left right : List State) (s s′ : State) → P s′ → All P (left ++ (s ∷ right)) → All P (left ++ (s′ ∷ right))
-all-but P [] right s s′ new all = (new, all .1)
-all-but P (x ∷ left) right s s′ new all = (all .0, all-but P left right s s′ new (all .1))
+pub all-but :
+    {A : Type 0} (P : A → Type 0) (left right : List A) (x x′ : A) → P x′ → All P (left ++ (x ∷ right)) → All P (left ++ (x′ ∷ right))
+all-but P [] right x x′ new all = (new, all .1)
+all-but P (y ∷ left) right x x′ new all = (all .0, all-but P left right x x′ new (all .1))
 
 -- a worker on the uncut decode's course, with the output that it shares
-record Working (m : List ℕ) (w : ℕ) (o₀ o : List ℕ) (s : State) : Type 0 where
-  on-course : OnCourse m w s
-  holds : Held m w o₀ o s
+pub record Working (m : List ℕ) (w : ℕ) (o₀ o : List ℕ) (s : State) : Type 0 where
+  pub on-course : OnCourse m w s
+  pub holds : Held m w o₀ o s
   -- where there is no room it has not stepped
-  idle : length o₀ < needed s → bytesBefore s ≡ 0
+  pub idle : length o₀ < needed s → bytesBefore s ≡ 0
 
 -- a crew: each of its workers, and any that starts now
 record Manned (m : List ℕ) (w : ℕ) (o₀ : List ℕ) (ss : List State) (o : List ℕ) : Type 0 where
@@ -136,7 +136,7 @@ reaches-uncut m w o₀ o s a = go (decLe (needed s) (length o₀))
     go (no lacks) = rw (a .idle (lt-of-not-le lacks)) (zero-le, refl)
 
 -- a worker is undisturbed
-undisturbed : (m : List ℕ) (w : ℕ) (o₀ o : List ℕ) (s : State) → Working m w o₀ o s → Undisturbed m w o₀ s o
+pub undisturbed : (m : List ℕ) (w : ℕ) (o₀ o : List ℕ) (s : State) → Working m w o₀ o s → Undisturbed m w o₀ s o
 undisturbed m w o₀ o s a =
     let before = reaches-uncut m w o₀ o s a in
     record {

@@ -5,5 +5,6 @@ pub mod Inside
 pub mod Document
 pub mod Strict
 pub mod Flushing
+pub mod Sharing
 pub mod ReadBack
 pub mod Streams
