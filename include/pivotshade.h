@@ -18,8 +18,8 @@ extern "C" {
 /* Width, height, channels, colour space. */
 uint64_t pivotshade_header(const uint8_t *msg, size_t len, uint64_t figures[4]);
 
-/* Decodes to 3 or 4 wanted channels: bytes written, message bytes used. After a refusal 2 to 7 nothing is written, after 1 the pixels of the
-   chunks done, after 8 every pixel; no other byte of out changes. */
+/* Decodes to 3 or 4 wanted channels: bytes written, message bytes used. out needs width x height x wanted bytes; of a longer one the end stays as
+   it was. After a refusal 2 to 7 nothing is written, after 1 the pixels of the chunks done, after 8 every pixel; no other byte of out changes. */
 uint64_t pivotshade_decode(const uint8_t *msg, size_t len, uint64_t wanted, uint8_t *out, size_t out_len, uint64_t figures[4]);
 
 /* Encodes width x height pixels of 3 or 4 bytes each, len bytes in all (len says which), in colour space 0 (sRGB) or 1 (linear): bytes written.
@@ -48,6 +48,10 @@ uint64_t pivotshade_start(const uint8_t *msg, size_t len, uint64_t wanted, uint8
    to do; next holds the next record, and its length is the first figure. Else a refusal. Whatever is returned but PIVOTSHADE_MORE, next is as
    it was. No byte of out before the record's pixel is written.
 
+   out needs width x height x wanted bytes from the first run on, as for pivotshade_decode. Lend next PIVOTSHADE_RECORD_MAX bytes, always.
+
+   0 steps test the record alone, and look neither at msg nor at out: PIVOTSHADE_MORE and the same record in next, or the record's refusal.
+
    A host owes, and the call cannot see:
    - the message that the record was started on, byte for byte;
    - an output that holds, before the record's pixel, what it held when the record was written; from there on it may hold anything;
@@ -56,11 +60,10 @@ uint64_t pivotshade_start(const uint8_t *msg, size_t len, uint64_t wanted, uint8
 
    Whose refusal it is, and what it leaves:
    - 2, 3, 4, 5 and 9 are the record's; out is as it was.
-   - 1 is the record's, cut short, or the message's. A call with 0 steps and PIVOTSHADE_RECORD_MAX bytes for next tests the record alone: it
-     returns PIVOTSHADE_MORE and the same record, or the record's refusal, and out is as it was.
+   - 1 is the record's, cut short, or the message's: a call with 0 steps tells which.
    - 1 and 8 of the message leave out as pivotshade_decode leaves it.
-   - 7 has the length and what is required. With PIVOTSHADE_RECORD_MAX bytes for next it is always out's, and out is as it was. For next the
-     steps are done and stand in out.
+   - 7 is out's, which is then as it was. Where next has less than PIVOTSHADE_RECORD_MAX bytes it may be next's: then the steps are done, and
+     stand in out.
    After any of them the same record may be handed in again.
 
    A host that keeps its output in a file writes there only from the record's pixel on, and saves the next record after that is flushed. The

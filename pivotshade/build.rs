@@ -1,6 +1,6 @@
 // Links libqoi.a, the proved functions: from the folder that the environment variable PIVOTSHADE_ARCHIVE names; where it is not set, from the
-// repository's target/staticlib, to which `rt staticlib qoi` writes it where it is missing.
-use std::env;
+// repository's target/, to which the repository's own commands write it where it is missing.
+use std::env::{self, consts::ARCH};
 use std::path::{Path, PathBuf};
 use std::process::Command;
 
@@ -31,40 +31,41 @@ fn named(folder: &Path) -> PathBuf {
     folder.to_path_buf()
 }
 
-/// The repository's own, which is for x86-64 Linux alone.
+/// The repository's own, for the processor that is built for.
 fn of_the_repository() -> PathBuf {
-    let is = |variable: &str, wanted: &str| env::var(variable).as_deref() == Ok(wanted);
-    if !is("CARGO_CFG_TARGET_ARCH", "x86_64") || !is("CARGO_CFG_TARGET_OS", "linux") {
-        panic!(
-            "`rt staticlib qoi` compiles for x86-64 Linux alone; for another target, as Arm, name in {VARIABLE} \
+    let set = |variable| env::var(variable).expect("cargo sets it");
+    let (processor, system) = (set("CARGO_CFG_TARGET_ARCH"), set("CARGO_CFG_TARGET_OS"));
+    let (folder, command) = match (processor.as_str(), system.as_str()) {
+        ("x86_64", "linux") => ("target/staticlib", "rt staticlib qoi"),
+        // ARCH is the machine's that builds
+        ("aarch64", "linux") if ARCH == "aarch64" => ("target/native", "tools/native-archive"),
+        ("aarch64", "linux") => ("target/aarch64", "tools/native-archive aarch64"),
+        _ => panic!(
+            "the repository compiles for Linux on x86-64 and Arm; for {system} on {processor} name in {VARIABLE} \
              the folder of a {ARCHIVE} that was compiled for it"
-        );
-    }
-    let here = env::var("CARGO_MANIFEST_DIR").expect("cargo sets it");
-    let root = Path::new(&here).join("..");
-    let folder = root.join("target/staticlib");
+        ),
+    };
+    let root = Path::new(&set("CARGO_MANIFEST_DIR")).join("..");
+    let folder = root.join(folder);
     if !folder.join(ARCHIVE).is_file() {
-        prove(&root);
+        prove(&root, command);
     }
     folder
 }
 
 /// Proves the codec and compiles it: seconds to minutes.
-fn prove(root: &Path) {
-    let ran = Command::new("rt")
-        .args(["staticlib", "qoi"])
+fn prove(root: &Path, command: &str) {
+    let ran = Command::new("sh")
+        .args(["-c", command])
         .current_dir(root)
-        .output();
-    match ran {
-        Err(error) => panic!(
-            "there is no target/staticlib/{ARCHIVE}, and `rt staticlib qoi` did not start ({error}): put the Rattle kit's \
-             command rt on the path, or name in {VARIABLE} the folder of an archive that was compiled elsewhere"
-        ),
-        Ok(ran) if !ran.status.success() => panic!(
-            "`rt staticlib qoi` failed:\n{}{}",
+        .output()
+        .expect("sh starts");
+    if !ran.status.success() {
+        panic!(
+            "`{command}` wrote no {ARCHIVE}. It wants the Rattle kit's command rt on the path; {VARIABLE} can name \
+             the folder of an archive that was compiled elsewhere. It said:\n{}{}",
             String::from_utf8_lossy(&ran.stdout),
             String::from_utf8_lossy(&ran.stderr)
-        ),
-        Ok(_) => {}
+        );
     }
 }

@@ -1,11 +1,20 @@
-# rust.sh: what the scripts that run crate qoi 0.4.1 (the Rust) share. It is sourced, by a script that has set `root`, the repository, and
-# defined `fail`, which says why and ends.
+# rust.sh: what the scripts share that link the proved codec, and those that run crate qoi 0.4.1 (the Rust) beside it. It is sourced, by a script that
+# has set `root`, the repository, and defined `fail`, which says why and ends.
 #
 # The Rust is the folder ../shared/oracle beside the repository, or the one that the environment variable QOI_ORACLE names: a Cargo.toml of
-# crate qoi, with a .cargo/config.toml that says where its dependency is found. That is Debian's librust-bytemuck-dev, which is installed
-# where it is missing and one may. The published images are the folder ../shared/images, or the one that QOI_IMAGES names.
+# crate qoi, with a .cargo/config.toml that says where its dependency, Debian's librust-bytemuck-dev, is found. The published images are the folder
+# ../shared/images, or the one that QOI_IMAGES names.
+#
+# Debian's packages that are missing are installed where one is root, and each time that is said. With PIVOTSHADE_NO_INSTALL=1 none is.
 
 images=${QOI_IMAGES:-$root/../shared/images}
+
+# Debian's packages, by what needs them
+rust_packages=(librust-bytemuck-dev)
+c_packages=(gcc libc6-dev)
+emulation_packages=(cargo rustc libstd-rust-dev:amd64 gcc-x86-64-linux-gnu libc6-dev-amd64-cross qemu-user)
+compare_packages=("${rust_packages[@]}")
+[ "$(uname -m)" != aarch64 ] || compare_packages+=("${emulation_packages[@]}")
 
 # quietly COMMAND...: what it prints is shown only where it fails
 quietly() {
@@ -16,7 +25,21 @@ quietly() {
     return $status
 }
 
-may_install() { [ "$(id -u)" = 0 ] && command -v apt-get >/dev/null; }
+# take_no_install ARGUMENT...: sets `arguments` to those but --no-install, which stands for PIVOTSHADE_NO_INSTALL=1
+take_no_install() {
+    local argument
+    arguments=()
+    for argument; do
+        if [ "$argument" = --no-install ]; then export PIVOTSHADE_NO_INSTALL=1; else arguments+=("$argument"); fi
+    done
+}
+# say_installs PACKAGE...: what a usage says of them
+say_installs() {
+    echo "Run by root, it installs those of these Debian packages that are missing: $*."
+    echo "With --no-install, or PIVOTSHADE_NO_INSTALL=1, it installs none, and says what is missing."
+}
+
+may_install() { [ "${PIVOTSHADE_NO_INSTALL:-}" != 1 ] && [ "$(id -u)" = 0 ] && command -v apt-get >/dev/null; }
 add_packages() {
     echo "installing $*" >&2
     quietly apt-get install -y --no-install-recommends "$@"
@@ -35,7 +58,7 @@ find_rust() {
     [ -f "$oracle/Cargo.toml" ] || fail "no crate qoi at $oracle; name its folder in QOI_ORACLE"
     oracle=$(cd -- "$oracle" && pwd)
     command -v cargo >/dev/null || fail "cargo is missing"
-    can_have has_bytemuck librust-bytemuck-dev || fail "install the Debian package librust-bytemuck-dev"
+    can_have has_bytemuck "${rust_packages[@]}" || fail "the Debian package ${rust_packages[*]} is missing"
 }
 has_bytemuck() { compgen -G '/usr/share/cargo/registry/bytemuck-*' >/dev/null; }
 
@@ -58,19 +81,52 @@ copy_crate() {
     fi
 }
 
-# x86_64_archive: proves the port and writes target/staticlib/libqoi.a
-x86_64_archive() { (cd "$root" && quietly rt staticlib qoi); }
+# find_rt: has what proves and compiles the codec for this machine
+find_rt() {
+    command -v rt >/dev/null || fail "rt is missing"
+    case $(uname -m) in x86_64 | aarch64) ;; *) fail "the codec is compiled for x86-64 and Arm, and this machine is $(uname -m)" ;; esac
+}
 
-# native_archive: proves the port and writes target/native/libqoi.a, for this machine's own processor. On x86-64 that is the same archive; on Arm
-# ../shared/tools/native-archive compiles it, or the program that QOI_NATIVE_ARCHIVE names
-native_tool=${QOI_NATIVE_ARCHIVE:-$root/../shared/tools/native-archive}
-can_compile_natively() { [ "$(uname -m)" = x86_64 ] || [ -x "$native_tool" ]; }
-native_archive() {
-    if [ "$(uname -m)" = x86_64 ]; then
-        x86_64_archive && mkdir -p "$root/target/native" && cp "$root/target/staticlib/libqoi.a" "$root/target/native/libqoi.a"
-    else
-        (cd "$root" && quietly "$native_tool" qoi)
-    fi
+# native_archive: proves the codec and writes target/native/libqoi.a, for this machine's own processor
+native_archive() { quietly "$root/tools/native-archive"; }
+
+# prove_showing: the same, and says on standard error how far it is; where nothing changed, it says nothing
+prove_showing() {
+    local log=$root/target/printed
+    mkdir -p "$root/target"
+    (set -o pipefail && "$root/tools/native-archive" 2>&1 | tee "$log" | show_proofs) || { cat "$log" >&2 && return 1; }
+}
+# show_proofs: reads what native-archive prints, and says how many crates are proved and which was the last: on a terminal in one line, else in one each
+show_proofs() {
+    local all proved=0 last='' line shown='' start=$'\r\e[K' end='' about='proving and compiling the codec, some minutes the first time: '
+    all=$(crates_of_qoi)
+    [ -t 2 ] || { start='' end=$'\n'; }
+    while IFS= read -r line; do
+        case $line in
+            "native-archive: proving "*) ;;
+            "rt: "*" proved ("*) proved=$((proved + 1)) last=${line#rt: } last=", ${last%% *}" ;;
+            "native-archive: "*" is there") proved=$all last=", qoi" ;;
+            *) continue ;;
+        esac
+        printf '%s' "$start$about$proved of $all crates$last$end" >&2
+        [ -z "$end" ] || about=''
+        shown=yes
+    done
+    # a terminal's line is still open
+    [ -z "$shown" ] || [ -n "$end" ] || echo >&2
+}
+# crates_of_qoi: how many crates crate qoi stands on, itself counted
+crates_of_qoi() {
+    awk -F: '
+        function visit(name,    below, n, i) {
+            if (!(name in stands_on) || name in seen) return
+            seen[name]
+            count++
+            n = split(stands_on[name], below, " ")
+            for (i = 1; i <= n; i++) visit(below[i])
+        }
+        /^[^#]/ { stands_on[$1] = $2 }
+        END { visit("qoi"); print count }' "$root/crates.txt"
 }
 
 # build_host FOLDER NAME CARGO...: builds the host in target/host/NAME, with the archive libqoi.a of target/FOLDER, by CARGO with its options

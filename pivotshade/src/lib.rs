@@ -45,9 +45,9 @@
 //!
 //! # Building
 //!
-//! On x86-64 Linux the archive is taken from the repository's `target/staticlib`; where it is missing there, `rt staticlib qoi` proves and compiles
-//! it. One that is there is taken as it is. The environment variable `PIVOTSHADE_ARCHIVE` names another folder to take `libqoi.a` from; on Arm
-//! it must name one compiled for Arm.
+//! On Linux, on x86-64 and on Arm, the archive is taken from the repository's `target/`; where it is missing there, the build proves and compiles it,
+//! which takes some minutes and wants the Rattle kit's command `rt` on the path. One that is there is taken as it is. The environment variable
+//! `PIVOTSHADE_ARCHIVE` names another folder to take `libqoi.a` from.
 
 #![deny(unsafe_op_in_unsafe_fn, missing_docs)]
 #![deny(unsafe_code)]
