@@ -78,7 +78,6 @@ impl<'a, D: Disk> Worker<'a, D> {
     fn new(disk: &'a D, job: &'a Job, message: &[u8], first: Record) -> Result<Self, Failure> {
         let message_sum = saved::sum(message);
         if job.restart {
-            // OUTPUT is made anew only where no record speaks of the bytes that it had
             save(disk, job, &first, message_sum)?;
         }
         let record = saved_record(disk, job, message_sum, &first)?.unwrap_or(first);
@@ -86,7 +85,10 @@ impl<'a, D: Disk> Worker<'a, D> {
         let copied = record.bytes_done();
         let output = match copied {
             // begun: on whatever OUTPUT holds
-            0 => begun_output(disk, job, needed as u64)?,
+            0 => {
+                forget_other_records(disk, job)?;
+                begun_output(disk, job, needed as u64)?
+            }
             // taken-up: the bytes before the record's pixel stand there
             _ => left_output(disk, job, needed as u64)?,
         };
@@ -216,6 +218,13 @@ fn saved_record<D: Disk>(
 fn save<D: Disk>(disk: &D, job: &Job, record: &Record, message_sum: u64) -> Result<(), Failure> {
     beside::replace(disk, &job.record, &saved::to_bytes(record, message_sum))
         .map_err(Failure::disk("save the record", &job.record))
+}
+
+/// Makes last that no record is there, or the first one: else an older one, which speaks of the bytes that OUTPUT had, might come back after OUTPUT
+/// is written. A worker that was killed may have renamed and not flushed.
+fn forget_other_records<D: Disk>(disk: &D, job: &Job) -> Result<(), Failure> {
+    disk.flush_folder(folder(&job.record))
+        .map_err(Failure::disk("flush the folder of", &job.record))
 }
 
 /// OUTPUT as a worker left it.
