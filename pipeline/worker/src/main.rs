@@ -2,6 +2,7 @@
 use pivotshade::{strict, Encoder};
 use std::env;
 use std::fs;
+use std::os::unix::fs::MetadataExt;
 use std::path::{Path, PathBuf};
 use std::process::ExitCode;
 use worker::arguments::{parse, Command, USAGE};
@@ -12,10 +13,18 @@ use worker::failure::Failure;
 use worker::progress::Bar;
 
 fn main() -> ExitCode {
-    match parse(env::args_os().skip(1)).and_then(carry_out) {
+    match parse(env::args_os().skip(1)) {
+        Ok(command) => ended(carry_out(command), ""),
+        Err(failure) => ended(Err(failure), "; worker --help says what it takes"),
+    }
+}
+
+/// The status, and the words of a failure with what is added to them.
+fn ended(result: Result<(), Failure>, added: &str) -> ExitCode {
+    match result {
         Ok(()) => ExitCode::SUCCESS,
         Err(failure) => {
-            eprintln!("worker: {failure}");
+            eprintln!("worker: {failure}{added}");
             ExitCode::from(failure.status())
         }
     }
@@ -31,11 +40,13 @@ fn carry_out(command: Command) -> Result<(), Failure> {
             height,
             colorspace,
         } => {
+            are_different(&[&pixels, &message])?;
             let data = read(&pixels)?;
             let encoded = Encoder::new(&data, width, height)
                 .and_then(|encoder| encoder.with_colorspace(colorspace).encode_to_vec())
                 .map_err(|error| Failure::refused(&pixels, error))?;
             beside::replace(&RealDisk, &message, &encoded)
+                .and_then(|()| beside::sweep(&RealDisk, &message))
                 .map_err(Failure::disk("write", &message))?;
         }
         Command::Decode(job) => {
@@ -68,20 +79,26 @@ fn read(path: &Path) -> Result<Vec<u8>, Failure> {
 /// Whether no two of these paths name one file, which would be written over.
 fn are_different(paths: &[&PathBuf]) -> Result<(), Failure> {
     for (place, path) in paths.iter().enumerate() {
-        if paths[..place].iter().any(|other| real(other) == real(path)) {
+        if paths[..place].iter().any(|other| are_one(other, path)) {
             return Err(Failure::usage(format!("{} is given twice", path.display())));
         }
     }
     Ok(())
 }
 
-/// A path with no links in it; the file need not be there.
+fn are_one(a: &Path, b: &Path) -> bool {
+    match (fs::metadata(a), fs::metadata(b)) {
+        (Ok(a), Ok(b)) => (a.dev(), a.ino()) == (b.dev(), b.ino()),
+        // one that is there and one that is not differ
+        (Ok(_), Err(_)) | (Err(_), Ok(_)) => false,
+        (Err(_), Err(_)) => real(a) == real(b),
+    }
+}
+
+/// The path of a file that is not there, with no links in its folder.
 fn real(path: &Path) -> PathBuf {
-    let whole = fs::canonicalize(path);
-    whole.unwrap_or_else(
-        |_| match (fs::canonicalize(folder(path)), path.file_name()) {
-            (Ok(folder), Some(name)) => folder.join(name),
-            _ => path.to_owned(),
-        },
-    )
+    match (fs::canonicalize(folder(path)), path.file_name()) {
+        (Ok(folder), Some(name)) => folder.join(name),
+        _ => path.to_owned(),
+    }
 }

@@ -288,6 +288,19 @@ fn wrong_arguments_and_files() {
         64,
         "./out is given twice",
     );
+    folder.refuses(
+        "encode m.qoi m.qoi --width 1 --height 1",
+        64,
+        "m.qoi is given twice",
+    );
+    fs::hard_link(folder.path("m.qoi"), folder.path("linked")).unwrap();
+    folder.refuses(
+        "decode m.qoi linked --record rec",
+        64,
+        "linked is given twice",
+    );
+    let words = "OUTPUT is missing; worker --help says what it takes";
+    folder.refuses("decode m.qoi --record rec", 64, words);
     let none = "none: cannot read: No such file or directory (os error 2)";
     folder.refuses("decode none out --record rec", 74, none);
     folder.refuses("check none", 74, none);
@@ -301,5 +314,5 @@ fn wrong_arguments_and_files() {
         (status, usage.starts_with("usage: "), words),
         (0, true, String::new())
     );
-    assert_eq!(folder.names(), ["m.qoi"]);
+    assert_eq!(folder.names(), ["linked", "m.qoi"]);
 }

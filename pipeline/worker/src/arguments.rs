@@ -3,7 +3,7 @@ use crate::decode::Job;
 use crate::failure::Failure;
 use pivotshade::{Channels, ColorSpace};
 use std::ffi::OsString;
-use std::path::PathBuf;
+use std::path::{Path, PathBuf};
 use std::str::FromStr;
 
 /// What the worker takes.
@@ -14,7 +14,8 @@ usage: worker encode PIXELS MESSAGE --width W --height H [--linear]
 
 encode  PIXELS holds W x H pixels of 3 or 4 bytes each; --linear says that their colour space is linear.
 decode  writes the pixels of MESSAGE to OUTPUT, and how far it is to FILE, every N steps (16777216 where none are given). It may be killed
-        at any instant: the same command goes on from there. --restart passes over what FILE holds. FILE stays after the end.
+        at any instant: the same command goes on from there. FILE stays after the end, and the same command is then done at once: it does
+        not look at OUTPUT's bytes again. --restart passes over what FILE holds.
 check   accepts what decodes with no run past the image and nothing after the end: width, height, channels, colour space, chunks, bytes.
 
 exit status: 0, or the number of the refusal, which stands in words on standard error (1 to 11; 9 is the record's), or 64 for wrong
@@ -53,8 +54,11 @@ pub enum Command {
 /// The command of these arguments, the program's name not among them.
 pub fn parse(arguments: impl IntoIterator<Item = OsString>) -> Result<Command, Failure> {
     let mut given = Given::of(arguments)?;
-    let command = match given.command.as_str() {
-        "help" | "--help" | "-h" => return Ok(Command::Help),
+    if given.flag("--help") {
+        return Ok(Command::Help);
+    }
+    let name = given.path("the command")?;
+    let command = match name.to_str().unwrap_or_default() {
         "encode" => Command::Encode {
             width: given.number("--width")?.ok_or_else(|| missing("--width"))?,
             height: given
@@ -90,9 +94,14 @@ pub fn parse(arguments: impl IntoIterator<Item = OsString>) -> Result<Command, F
         "check" => Command::Check {
             message: given.path("MESSAGE")?,
         },
-        other => return Err(Failure::usage(format!("there is no command {other}"))),
+        _ => {
+            return Err(Failure::usage(format!(
+                "there is no command {}",
+                name.display()
+            )))
+        }
     };
-    given.nothing_left()?;
+    given.nothing_left(&name)?;
     Ok(command)
 }
 
@@ -102,11 +111,11 @@ fn missing(what: &str) -> Failure {
 
 /// Options that take a value, and those that take none.
 const WITH_VALUE: [&str; 5] = ["--width", "--height", "--record", "--every", "--channels"];
-const ALONE: [&str; 2] = ["--linear", "--restart"];
+const ALONE: [&str; 3] = ["--linear", "--restart", "--help"];
 
 /// The arguments, sorted; each is taken out as it is used.
 struct Given {
-    command: String,
+    /// The command, then its paths.
     paths: Vec<OsString>,
     values: Vec<(String, OsString)>,
     flags: Vec<String>,
@@ -115,16 +124,16 @@ struct Given {
 impl Given {
     fn of(arguments: impl IntoIterator<Item = OsString>) -> Result<Self, Failure> {
         let mut arguments = arguments.into_iter();
-        let command = arguments.next().ok_or_else(|| missing("the command"))?;
         let mut given = Self {
-            command: command.to_string_lossy().into_owned(),
             paths: Vec::new(),
             values: Vec::new(),
             flags: Vec::new(),
         };
         while let Some(argument) = arguments.next() {
             let word = argument.to_string_lossy().into_owned();
-            if word == "--" {
+            if given.has(&word) {
+                return Err(Failure::usage(format!("{word} is given twice")));
+            } else if word == "--" {
                 given.paths.extend(arguments.by_ref());
             } else if WITH_VALUE.contains(&word.as_str()) {
                 let value = arguments.next();
@@ -139,6 +148,11 @@ impl Given {
             }
         }
         Ok(given)
+    }
+
+    fn has(&self, option: &str) -> bool {
+        self.values.iter().any(|(name, _)| name == option)
+            || self.flags.iter().any(|name| name == option)
     }
 
     fn path(&mut self, what: &str) -> Result<PathBuf, Failure> {
@@ -169,7 +183,7 @@ impl Given {
         place.map(|place| self.flags.remove(place)).is_some()
     }
 
-    fn nothing_left(self) -> Result<(), Failure> {
+    fn nothing_left(self, command: &Path) -> Result<(), Failure> {
         let paths = self
             .paths
             .into_iter()
@@ -178,7 +192,7 @@ impl Given {
         match paths.chain(options).chain(self.flags).next() {
             Some(left) => Err(Failure::usage(format!(
                 "{} does not take {left}",
-                self.command
+                command.display()
             ))),
             None => Ok(()),
         }
@@ -233,6 +247,7 @@ mod tests {
         };
         assert_eq!(parsed("check -- --m"), Ok(dashes));
         assert_eq!(parsed("--help"), Ok(Command::Help));
+        assert_eq!(parsed("decode --help"), Ok(Command::Help));
     }
 
     #[test]
@@ -260,6 +275,10 @@ mod tests {
         assert_eq!(words("decode m o p --record r"), "decode does not take p");
         assert_eq!(words("check m --restart"), "check does not take --restart");
         assert_eq!(words("check m --wrong"), "there is no option --wrong");
+        assert_eq!(
+            words("decode m o --record r --record s"),
+            "--record is given twice"
+        );
         assert_eq!(
             words("encode p m --width 4294967296 --height 1"),
             "--width takes a number"
