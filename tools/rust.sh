@@ -137,11 +137,11 @@ build_host() {
     (cd "$work" && PIVOTSHADE_ARCHIVE=$archive CARGO_TARGET_DIR=$work/build "$1" build --release --quiet "${@:2}")
 }
 
-# build_program NAME: builds the program of pipeline/NAME, with the archive of target/native, to target/worker/release/NAME
+# build_program NAME OPTION...: builds the program of pipeline/NAME, with the archive of target/native, to target/worker/release/NAME
 build_program() {
     (
         cd "$root/pipeline/$1"
         export PIVOTSHADE_ARCHIVE=$root/target/native CARGO_TARGET_DIR=$root/target/worker
-        quietly cargo build --release --offline
+        quietly cargo build --release --offline "${@:2}"
     )
 }
