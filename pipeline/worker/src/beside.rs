@@ -1,7 +1,7 @@
 //! A small file replaced as a whole: written beside, flushed, renamed, its folder flushed. At every instant it has its old bytes or its new ones.
 use crate::disk::{folder, Disk};
 use std::collections::hash_map::RandomState;
-use std::ffi::OsString;
+use std::ffi::{OsStr, OsString};
 use std::hash::{BuildHasher, Hasher};
 use std::io::{self, ErrorKind};
 use std::os::unix::ffi::OsStrExt;
@@ -9,6 +9,9 @@ use std::path::Path;
 
 /// How the name of a file that was written beside ends.
 const ENDING: &str = ".beside";
+
+/// How many digits stand before that, to the base of 16.
+const DIGITS: usize = 16;
 
 /// Replaces the bytes of the file at `path`, which need not be there.
 pub fn replace<D: Disk>(disk: &D, path: &Path, bytes: &[u8]) -> io::Result<()> {
@@ -27,8 +30,12 @@ pub fn replace<D: Disk>(disk: &D, path: &Path, bytes: &[u8]) -> io::Result<()> {
 fn write_beside<D: Disk>(disk: &D, path: &Path, bytes: &[u8]) -> io::Result<OsString> {
     let beside = name_beside(path);
     let file = disk.make(beside.as_ref())?;
-    disk.write_at(&file, bytes, 0)?;
-    disk.flush(&file)?;
+    let written = disk.write_at(&file, bytes, 0);
+    if let Err(error) = written.and_then(|()| disk.flush(&file)) {
+        // a disk that is full must not fill up with these
+        let _ = disk.remove(beside.as_ref());
+        return Err(error);
+    }
     Ok(beside)
 }
 
@@ -36,16 +43,27 @@ fn write_beside<D: Disk>(disk: &D, path: &Path, bytes: &[u8]) -> io::Result<OsSt
 fn name_beside(path: &Path) -> OsString {
     let random = RandomState::new().build_hasher().finish();
     let mut name = path.as_os_str().to_owned();
-    name.push(format!(".{random:016x}{ENDING}"));
+    name.push(format!(".{random:0DIGITS$x}{ENDING}"));
     name
+}
+
+/// Whether this is such a name beside a file of the name `of`.
+fn is_beside(name: &OsStr, of: &OsStr) -> bool {
+    let digits = name
+        .as_bytes()
+        .strip_prefix(of.as_bytes())
+        .and_then(|rest| rest.strip_prefix(b"."))
+        .and_then(|rest| rest.strip_suffix(ENDING.as_bytes()));
+    digits.map_or(false, |digits| {
+        digits.len() == DIGITS && digits.iter().all(u8::is_ascii_hexdigit)
+    })
 }
 
 /// Removes what killed workers left beside the file at `path`. A live one whose file it removes writes it again.
 pub fn sweep<D: Disk>(disk: &D, path: &Path) -> io::Result<()> {
-    let name = path.file_name().unwrap_or_default().as_bytes();
-    let start = [name, b"."].concat();
+    let of = path.file_name().unwrap_or_default();
     for name in disk.names(folder(path))? {
-        if name.as_bytes().starts_with(&start) && name.as_bytes().ends_with(ENDING.as_bytes()) {
+        if is_beside(&name, of) {
             match disk.remove(&folder(path).join(&name)) {
                 Err(error) if error.kind() != ErrorKind::NotFound => return Err(error),
                 _ => {}

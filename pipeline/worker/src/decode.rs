@@ -16,8 +16,8 @@ const AT_ONCE: u64 = 1 << 18;
 /// The most pixels that a step does: those of the longest run.
 const PIXELS_A_STEP: usize = 62;
 
-/// The fewest bytes that are copied to OUTPUT between two records.
-const COPIED_AT_ONCE: usize = 1 << 18;
+/// The fewest bytes that are copied to OUTPUT between two records: towards the end runs become short.
+const COPIED_AT_ONCE: usize = 1 << 12;
 
 /// What to decode, and where to.
 #[derive(Clone, Debug, PartialEq, Eq)]
@@ -63,13 +63,15 @@ struct Worker<'a, D: Disk> {
     job: &'a Job,
     message_sum: u64,
     record: Record,
+    /// Whether FILE has it.
+    is_saved: bool,
     /// Steps since a record was saved.
     unsaved: u64,
     out: Vec<u8>,
     /// How many bytes of it OUTPUT shows.
     copied: usize,
     output: D::File,
-    /// Whether OUTPUT may be one whose name does not last yet.
+    /// Whether OUTPUT may be one whose name and length do not last yet.
     is_new: bool,
 }
 
@@ -80,7 +82,9 @@ impl<'a, D: Disk> Worker<'a, D> {
         if job.restart {
             save(disk, job, &first, message_sum)?;
         }
-        let record = saved_record(disk, job, message_sum, &first)?.unwrap_or(first);
+        let saved = saved_record(disk, job, message_sum, &first)?;
+        let is_saved = saved.is_some();
+        let record = saved.unwrap_or(first);
         let needed = record.required_buf_len();
         let copied = record.bytes_done();
         let output = match copied {
@@ -97,6 +101,7 @@ impl<'a, D: Disk> Worker<'a, D> {
             job,
             message_sum,
             record,
+            is_saved,
             unsaved: 0,
             out: zeros(needed).ok_or_else(|| Failure::no_memory(&job.output, needed))?,
             copied,
@@ -143,6 +148,7 @@ impl<'a, D: Disk> Worker<'a, D> {
     /// Goes on with what a run has done: copies it where it is much, and saves its record where it is time.
     fn go_on(&mut self, next: Record, steps: u64) -> Result<(), Failure> {
         self.record = next;
+        self.is_saved = false;
         self.unsaved += steps;
         let done = self.record.bytes_done();
         if self.unsaved == self.job.every || done == self.out.len() {
@@ -168,9 +174,9 @@ impl<'a, D: Disk> Worker<'a, D> {
         Ok(())
     }
 
-    /// Saves the record, where steps were done since the last one: first OUTPUT is flushed, then the record that speaks of it is saved.
+    /// Makes OUTPUT and its record last, where they do not: first OUTPUT is flushed, then the record that speaks of it is saved.
     fn keep(&mut self) -> Result<(), Failure> {
-        if self.unsaved == 0 {
+        if self.is_saved && !self.is_new {
             return Ok(());
         }
         self.copy()?;
@@ -179,6 +185,7 @@ impl<'a, D: Disk> Worker<'a, D> {
             .map_err(Failure::disk("flush", &self.job.output))?;
         // saves: the record of the state at that flush
         save(self.disk, self.job, &self.record, self.message_sum)?;
+        self.is_saved = true;
         self.unsaved = 0;
         Ok(())
     }

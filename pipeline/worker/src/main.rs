@@ -2,6 +2,7 @@
 use pivotshade::{strict, Encoder};
 use std::env;
 use std::fs;
+use std::io::{stderr, stdout, Write};
 use std::os::unix::fs::MetadataExt;
 use std::path::{Path, PathBuf};
 use std::process::ExitCode;
@@ -24,7 +25,8 @@ fn ended(result: Result<(), Failure>, added: &str) -> ExitCode {
     match result {
         Ok(()) => ExitCode::SUCCESS,
         Err(failure) => {
-            eprintln!("worker: {failure}{added}");
+            // where nobody reads the words, the status stays
+            let _ = writeln!(stderr(), "worker: {failure}{added}");
             ExitCode::from(failure.status())
         }
     }
@@ -32,7 +34,7 @@ fn ended(result: Result<(), Failure>, added: &str) -> ExitCode {
 
 fn carry_out(command: Command) -> Result<(), Failure> {
     match command {
-        Command::Help => println!("{USAGE}"),
+        Command::Help => say(USAGE)?,
         Command::Encode {
             pixels,
             message,
@@ -58,7 +60,7 @@ fn carry_out(command: Command) -> Result<(), Failure> {
             let checked =
                 strict(read(&message)?).map_err(|error| Failure::refused(&message, error))?;
             let header = checked.header;
-            println!(
+            say(&format!(
                 "ok {} {} {} {} {} {}",
                 header.width,
                 header.height,
@@ -66,10 +68,15 @@ fn carry_out(command: Command) -> Result<(), Failure> {
                 header.colorspace.as_u8(),
                 checked.chunks,
                 checked.bytes
-            );
+            ))?;
         }
     }
     Ok(())
+}
+
+/// Prints a line.
+fn say(line: &str) -> Result<(), Failure> {
+    writeln!(stdout(), "{line}").map_err(Failure::disk("write", Path::new("standard output")))
 }
 
 fn read(path: &Path) -> Result<Vec<u8>, Failure> {

@@ -190,7 +190,13 @@ fn refused_as_undisturbed(test: &str, message: &[u8], status: i32, words: &str) 
 fn refused_messages() {
     let whole = message();
     let ended = "unexpected input buffer end while decoding";
-    for cut in [15, whole.len() / 3, whole.len() / 2 + 1, whole.len() - 9] {
+    for cut in [
+        14,
+        15,
+        whole.len() / 3,
+        whole.len() / 2 + 1,
+        whole.len() - 9,
+    ] {
         refused_as_undisturbed(&format!("cut-{cut}"), &whole[..cut], 1, ended);
     }
     let mut marked = whole;
@@ -268,10 +274,17 @@ fn what_killed_workers_left_beside_the_record_goes() {
     let folder = Folder::new("beside");
     folder.write("m.qoi", &message());
     folder.write("rec.0123456789abcdef.beside", b"half");
-    folder.write("record.0123456789abcdef.beside", b"of another record");
+    let others = [
+        "rec.notes.beside",
+        "rec.x.0123456789abcdef.beside",
+        "record.0123456789abcdef.beside",
+    ];
+    for other in others {
+        folder.write(other, b"of another file");
+    }
     folder.works(DECODE);
-    let names = ["m.qoi", "out", "rec", "record.0123456789abcdef.beside"];
-    assert_eq!(folder.names(), names);
+    assert_eq!(folder.names()[..3], ["m.qoi", "out", "rec"]);
+    assert_eq!(folder.names()[3..], others);
 }
 
 #[test]

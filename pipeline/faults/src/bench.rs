@@ -1,0 +1,163 @@
+//! The real worker on real files: a message, an output and a record in one folder.
+use crate::undisturbed::Undisturbed;
+use pivotshade::Channels;
+use std::fs::{self, File};
+use std::io::{self, ErrorKind};
+use std::os::unix::fs::FileExt;
+use std::os::unix::process::ExitStatusExt;
+use std::path::{Path, PathBuf};
+use std::process::{Child, Command, Stdio};
+
+/// The signal that nobody can catch.
+const SIGKILL: i32 = 9;
+
+pub struct Bench {
+    worker: PathBuf,
+    folder: PathBuf,
+    message: PathBuf,
+    output: PathBuf,
+    record: PathBuf,
+}
+
+/// How to start a worker.
+#[derive(Clone, Copy)]
+pub struct Order {
+    pub every: usize,
+    pub channels: Channels,
+    pub restart: bool,
+}
+
+/// How a worker ended.
+pub struct Ended {
+    /// None where it was killed.
+    pub status: Option<i32>,
+    /// What it said.
+    pub words: String,
+}
+
+/// What stands in the output and in the record, where they are there.
+#[derive(PartialEq)]
+pub struct Pair {
+    pub output: Option<Vec<u8>>,
+    pub record: Option<Vec<u8>>,
+}
+
+impl Bench {
+    /// Files in this folder, which is made.
+    pub fn new(worker: &Path, folder: &Path) -> Result<Self, String> {
+        fs::create_dir_all(folder).map_err(says(folder))?;
+        Ok(Self {
+            worker: worker.to_owned(),
+            folder: folder.to_owned(),
+            message: folder.join("message"),
+            output: folder.join("output"),
+            record: folder.join("record"),
+        })
+    }
+
+    /// A message, an output that holds these bytes or is not there, and no record.
+    pub fn put(&self, decode: &Undisturbed, output: Option<&[u8]>) -> Result<(), String> {
+        fs::write(&self.message, &decode.message).map_err(says(&self.message))?;
+        self.put_pair(&Pair {
+            output: output.map(<[u8]>::to_vec),
+            record: None,
+        })
+    }
+
+    /// Puts an output and a record there, or takes them away.
+    pub fn put_pair(&self, pair: &Pair) -> Result<(), String> {
+        put(&self.output, pair.output.as_deref())?;
+        put(&self.record, pair.record.as_deref())
+    }
+
+    pub fn pair(&self) -> Result<Pair, String> {
+        Ok(Pair {
+            output: got(&self.output)?,
+            record: got(&self.record)?,
+        })
+    }
+
+    /// The files that workers have written beside the record.
+    pub fn beside(&self) -> Result<Vec<String>, String> {
+        let entries = fs::read_dir(&self.folder).map_err(says(&self.folder))?;
+        let names = entries.filter_map(|entry| entry.ok()?.file_name().into_string().ok());
+        Ok(names.filter(|name| name.ends_with(".beside")).collect())
+    }
+
+    pub fn start(&self, order: Order) -> Result<Child, String> {
+        let mut command = Command::new(&self.worker);
+        command.arg("decode").arg(&self.message).arg(&self.output);
+        command.arg("--record").arg(&self.record);
+        command.args(["--every", &order.every.to_string()]);
+        command.args(["--channels", &order.channels.as_u8().to_string()]);
+        if order.restart {
+            command.arg("--restart");
+        }
+        command.stdin(Stdio::null()).stdout(Stdio::null());
+        let started = command.stderr(Stdio::piped()).spawn();
+        started.map_err(says(&self.worker))
+    }
+
+    /// Waits until a byte of the output is there, or the worker has ended: so the worker is often in the middle of the write that brings it.
+    pub fn watch(&self, worker: &mut Child, place: usize, byte: u8) -> Result<(), String> {
+        while worker.try_wait().map_err(says(&self.worker))?.is_none() {
+            let mut read = [!byte];
+            // it may not be made yet, or be too short
+            let output = File::open(&self.output);
+            let _ = output.and_then(|output| output.read_at(&mut read, place as u64));
+            if read == [byte] {
+                break;
+            }
+        }
+        Ok(())
+    }
+
+    /// A worker that nobody kills.
+    pub fn work(&self, order: Order) -> Result<Ended, String> {
+        wait(self.start(order)?)
+    }
+
+    /// Takes all files away.
+    pub fn clear(&self) -> Result<(), String> {
+        fs::remove_dir_all(&self.folder).map_err(says(&self.folder))
+    }
+}
+
+/// Waits until a worker ends, or is dead.
+pub fn wait(worker: Child) -> Result<Ended, String> {
+    let ended = worker
+        .wait_with_output()
+        .map_err(|error| error.to_string())?;
+    let words = String::from_utf8_lossy(&ended.stderr).into_owned();
+    match (ended.status.code(), ended.status.signal()) {
+        (None, Some(SIGKILL)) => Ok(Ended {
+            status: None,
+            words,
+        }),
+        (None, _) => Err(format!("a worker broke off: {}, {words}", ended.status)),
+        (status, _) => Ok(Ended { status, words }),
+    }
+}
+
+fn put(path: &Path, bytes: Option<&[u8]>) -> Result<(), String> {
+    let done = match bytes {
+        Some(bytes) => fs::write(path, bytes),
+        None => fs::remove_file(path),
+    };
+    match done {
+        Err(error) if bytes.is_none() && error.kind() == ErrorKind::NotFound => Ok(()),
+        done => done.map_err(says(path)),
+    }
+}
+
+fn got(path: &Path) -> Result<Option<Vec<u8>>, String> {
+    match fs::read(path) {
+        Err(error) if error.kind() == ErrorKind::NotFound => Ok(None),
+        read => read.map(Some).map_err(says(path)),
+    }
+}
+
+/// What the operating system says of a file.
+fn says(path: &Path) -> impl Fn(io::Error) -> String + '_ {
+    move |error| format!("{}: {error}", path.display())
+}

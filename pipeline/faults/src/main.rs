@@ -1,0 +1,121 @@
+//! The fault test: `./faults` builds and runs it. It kills the worker and cuts the power under it, and looks at what is left.
+#![deny(unsafe_code)]
+
+mod bench;
+mod damage;
+mod forgetful;
+mod kills;
+mod losses;
+mod pictures;
+mod random;
+mod turns;
+mod undisturbed;
+mod wrong;
+
+use bench::Bench;
+use random::Random;
+use std::env;
+use std::path::PathBuf;
+use std::process::ExitCode;
+use wrong::Wrong;
+
+const USAGE: &str = "usage: faults WORKER FOLDER [--long] [--seed N]";
+
+/// The most crashes within which a wrong worker must be caught.
+const CAUGHT_WITHIN: usize = 2000;
+
+struct Given {
+    worker: PathBuf,
+    folder: PathBuf,
+    is_long: bool,
+    seed: u64,
+}
+
+fn main() -> ExitCode {
+    let given = match parse() {
+        Some(given) => given,
+        None => {
+            eprintln!("{USAGE}");
+            return ExitCode::from(2);
+        }
+    };
+    match tried(&given) {
+        Ok(()) => {
+            println!("0 failures");
+            ExitCode::SUCCESS
+        }
+        Err(words) => {
+            println!("seed {}: {words}", given.seed);
+            println!("1 failure");
+            ExitCode::FAILURE
+        }
+    }
+}
+
+fn parse() -> Option<Given> {
+    let mut paths = Vec::new();
+    let (mut is_long, mut seed) = (false, 1);
+    let mut arguments = env::args_os().skip(1);
+    while let Some(argument) = arguments.next() {
+        match argument.to_str() {
+            Some("--long") => is_long = true,
+            Some("--seed") => seed = arguments.next()?.to_str()?.parse().ok()?,
+            _ => paths.push(PathBuf::from(argument)),
+        }
+    }
+    match <[PathBuf; 2]>::try_from(paths) {
+        Ok([worker, folder]) => Some(Given {
+            worker,
+            folder,
+            is_long,
+            seed,
+        }),
+        Err(_) => None,
+    }
+}
+
+/// Both parts, and that the second would find a fault; what goes wrong first ends it.
+fn tried(given: &Given) -> Result<(), String> {
+    let (kills, losses, damages) = match given.is_long {
+        true => (5000, 60_000, 100),
+        false => (1000, 10_000, 12),
+    };
+    let bench = Bench::new(&given.worker, &given.folder)?;
+    let mut random = Random::new(given.seed);
+    let kept = |words| format!("{words}; the files are in {}", given.folder.display());
+    let kills = kills::kill(&bench, &mut random, kills).map_err(kept)?;
+    println!(
+        "kills: {}, of these {} in the middle of a write; {} take-ups, {} MB compared",
+        kills.kills,
+        kills.in_a_write,
+        kills.take_ups,
+        kills.bytes / 1_000_000
+    );
+    let damages = damage::damage(&bench, &mut random, damages).map_err(kept)?;
+    println!(
+        "damages: {damages} records and outputs that no worker left, each refused and begun anew"
+    );
+    bench.clear()?;
+    let losses = losses::lose(given.seed, losses)?;
+    println!(
+        "losses: {} of {} crashes lost what was not flushed, {} of them a rename; {} kills, {} take-ups, {} MB compared",
+        losses.losses,
+        losses.crashes,
+        losses.renames,
+        losses.kills,
+        losses.take_ups,
+        losses.bytes / 1_000_000
+    );
+    Wrong::ALL
+        .iter()
+        .try_for_each(|&wrong| is_caught(given.seed, wrong))
+}
+
+fn is_caught(seed: u64, wrong: Wrong) -> Result<(), String> {
+    let words = wrong.words();
+    let (crashes, by) = losses::caught(seed, wrong, CAUGHT_WITHIN).ok_or_else(|| {
+        format!("a worker that {words} is not caught within {CAUGHT_WITHIN} crashes")
+    })?;
+    println!("a worker that {words} is caught at crash {crashes}: {by}");
+    Ok(())
+}
