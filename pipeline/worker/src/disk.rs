@@ -3,6 +3,7 @@ use std::ffi::OsString;
 use std::fs::{self, File, OpenOptions};
 use std::io;
 use std::os::unix::fs::FileExt;
+use std::os::unix::io::AsRawFd;
 use std::path::Path;
 
 /// A disk. What is written shows at once, and lasts from the next flush on.
@@ -46,6 +47,9 @@ pub fn folder(path: &Path) -> &Path {
 /// The operating system's files.
 pub struct RealDisk;
 
+/// As many bytes take the disk longer than a call takes.
+const MUCH: usize = 1 << 16;
+
 impl Disk for RealDisk {
     type File = File;
 
@@ -74,7 +78,11 @@ impl Disk for RealDisk {
     }
 
     fn write_at(&self, file: &File, bytes: &[u8], place: u64) -> io::Result<()> {
-        file.write_all_at(bytes, place)
+        file.write_all_at(bytes, place)?;
+        if bytes.len() >= MUCH {
+            begin_to_flush(file, bytes.len(), place);
+        }
+        Ok(())
     }
 
     fn flush(&self, file: &File) -> io::Result<()> {
@@ -102,4 +110,15 @@ impl Disk for RealDisk {
     fn flush_folder(&self, folder: &Path) -> io::Result<()> {
         File::open(folder)?.sync_all()
     }
+}
+
+/// Has the disk begin with bytes that a flush will wait for, while the decode goes on. Nothing rests on it, so its answer does not matter.
+#[allow(unsafe_code)]
+fn begin_to_flush(file: &File, length: usize, place: u64) {
+    extern "C" {
+        fn sync_file_range(descriptor: i32, place: i64, length: i64, flags: u32) -> i32;
+    }
+    const WRITE: u32 = 2;
+    // SAFETY: it takes numbers, reads and writes no memory of this program, and leaves the file's bytes as they are
+    unsafe { sync_file_range(file.as_raw_fd(), place as i64, length as i64, WRITE) };
 }
