@@ -1,4 +1,4 @@
-//! The real worker on real files: a message, an output and a record in one folder.
+//! The real worker on real files: a message, an output and a record.
 use crate::undisturbed::Undisturbed;
 use pivotshade::Channels;
 use std::fs::{self, File};
@@ -7,13 +7,13 @@ use std::os::unix::fs::FileExt;
 use std::os::unix::process::ExitStatusExt;
 use std::path::{Path, PathBuf};
 use std::process::{Child, Command, Stdio};
+use worker::disk::folder;
 
 /// The signal that nobody can catch.
 const SIGKILL: i32 = 9;
 
 pub struct Bench {
     worker: PathBuf,
-    folder: PathBuf,
     message: PathBuf,
     output: PathBuf,
     record: PathBuf,
@@ -43,15 +43,18 @@ pub struct Pair {
 }
 
 impl Bench {
-    /// Files in this folder, which is made.
-    pub fn new(worker: &Path, folder: &Path) -> Result<Self, String> {
-        fs::create_dir_all(folder).map_err(says(folder))?;
+    /// Files in this folder, which is made; the record in one of its own there, or beside the output.
+    pub fn new(worker: &Path, folder: &Path, is_apart: bool) -> Result<Self, String> {
+        let records = match is_apart {
+            true => folder.join("records"),
+            false => folder.to_owned(),
+        };
+        fs::create_dir_all(&records).map_err(says(&records))?;
         Ok(Self {
             worker: worker.to_owned(),
-            folder: folder.to_owned(),
             message: folder.join("message"),
             output: folder.join("output"),
-            record: folder.join("record"),
+            record: records.join("record"),
         })
     }
 
@@ -79,7 +82,7 @@ impl Bench {
 
     /// The files that workers have written beside the record.
     pub fn beside(&self) -> Result<Vec<String>, String> {
-        let entries = fs::read_dir(&self.folder).map_err(says(&self.folder))?;
+        let entries = fs::read_dir(folder(&self.record)).map_err(says(&self.record))?;
         let names = entries.filter_map(|entry| entry.ok()?.file_name().into_string().ok());
         Ok(names.filter(|name| name.ends_with(".beside")).collect())
     }
@@ -115,11 +118,6 @@ impl Bench {
     /// A worker that nobody kills.
     pub fn work(&self, order: Order) -> Result<Ended, String> {
         wait(self.start(order)?)
-    }
-
-    /// Takes all files away.
-    pub fn clear(&self) -> Result<(), String> {
-        fs::remove_dir_all(&self.folder).map_err(says(&self.folder))
     }
 }
 
@@ -158,6 +156,6 @@ fn got(path: &Path) -> Result<Option<Vec<u8>>, String> {
 }
 
 /// What the operating system says of a file.
-fn says(path: &Path) -> impl Fn(io::Error) -> String + '_ {
+pub fn says(path: &Path) -> impl Fn(io::Error) -> String + '_ {
     move |error| format!("{}: {error}", path.display())
 }

@@ -81,6 +81,19 @@ impl Forgetful {
         lost
     }
 
+    /// Puts other bytes somewhere behind this place into a file that is there; they last.
+    pub fn spoil(&mut self, path: &Path, place: usize, random: &mut Random) {
+        if let Some(file) = self.named(path) {
+            let mut bytes = self.files[file].shown().to_vec();
+            if place < bytes.len() {
+                let from = random.between(place, bytes.len() - 1);
+                let to = random.between(from + 1, bytes.len());
+                bytes[from..to].copy_from_slice(&random.bytes(to - from));
+            }
+            self.files[file] = Bytes::lasting(bytes);
+        }
+    }
+
     pub fn open(&self, path: &Path) -> io::Result<usize> {
         self.named(path).ok_or_else(|| ErrorKind::NotFound.into())
     }

@@ -26,11 +26,11 @@ pub struct Kills {
 }
 
 /// Histories, until there are so many kills.
-pub fn kill(bench: &Bench, random: &mut Random, wanted: usize) -> Result<Kills, String> {
+pub fn kill(benches: &[Bench], random: &mut Random, wanted: usize) -> Result<Kills, String> {
     let mut counts = Kills::default();
     let decodes = some_decodes(random);
     while counts.kills < wanted {
-        let decode = random.pick(&decodes);
+        let (bench, decode) = (random.pick(benches), random.pick(&decodes));
         History::new(bench, random, &mut counts, decode)?.live()?;
     }
     Ok(counts)

@@ -191,7 +191,9 @@ impl<'a> History<'a> {
         let random = Random::new(self.random.next());
         let turns = Turns::new(take(&mut self.disk), random, plan, &self.record);
         let statuses = at_once(&turns, &jobs, self.wrong);
-        self.take(turns.left());
+        let left = turns.left();
+        let is_cut = left.lost.is_some();
+        self.take(left);
         self.check_pair()?;
         let right = self.decodes[which].status;
         let ended: Vec<u8> = statuses.into_iter().flatten().collect();
@@ -201,7 +203,20 @@ impl<'a> History<'a> {
         if !ended.is_empty() && which == THIS {
             self.check_output()?;
         }
+        if is_cut && ended.is_empty() && self.random.one_in(2) {
+            self.spoil_what_is_not_done();
+        }
         Ok(!ended.is_empty())
+    }
+
+    /// A crash may leave anything where no record speaks of it.
+    fn spoil_what_is_not_done(&mut self) {
+        let done = self
+            .found
+            .as_ref()
+            .map_or(0, |(_, record)| record.bytes_done());
+        self.disk.spoil(&self.output, done, &mut self.random);
+        self.know_what_is_right();
     }
 
     /// A worker passes over a record that is there where it must, and now and then where it need not.
@@ -266,15 +281,7 @@ impl<'a> History<'a> {
         };
         self.round(THIS, &alone)?;
         self.check_output()?;
-        let pixels = self.decodes[THIS].pixels_at_end();
-        match &self.found {
-            Some((THIS, record)) if record.pixels_done() == pixels => {}
-            found => {
-                return Err(format!(
-                    "{found:?} stands there at the end of {pixels} pixels"
-                ))
-            }
-        }
+        self.check_end()?;
         let all = self.disk.all_shown();
         let is_beside = |path: &Path| path.extension() == Some("beside".as_ref());
         if let Some((path, _)) = all.iter().find(|(path, _)| is_beside(path)) {
@@ -286,7 +293,21 @@ impl<'a> History<'a> {
         }
         self.cut_power();
         self.check_pair()?;
+        self.check_end()?;
         self.check_output()
+    }
+
+    /// Whether the record stands at the end.
+    fn check_end(&self) -> Result<(), String> {
+        let pixels = self.decodes[THIS].pixels_at_end();
+        match &self.found {
+            Some((THIS, record)) if record.pixels_done() == pixels => Ok(()),
+            Some((THIS, record)) => Err(format!(
+                "the record stands at pixel {} of {pixels} at the end",
+                record.pixels_done()
+            )),
+            _ => Err("no record of it stands there at the end".into()),
+        }
     }
 }
 

@@ -5,6 +5,7 @@ mod bench;
 mod damage;
 mod forgetful;
 mod kills;
+mod largest;
 mod losses;
 mod pictures;
 mod random;
@@ -15,6 +16,7 @@ mod wrong;
 use bench::Bench;
 use random::Random;
 use std::env;
+use std::fs;
 use std::path::PathBuf;
 use std::process::ExitCode;
 use wrong::Wrong;
@@ -80,10 +82,11 @@ fn tried(given: &Given) -> Result<(), String> {
         true => (5000, 60_000, 100),
         false => (1000, 10_000, 12),
     };
-    let bench = Bench::new(&given.worker, &given.folder)?;
+    let bench = |name, is_apart| Bench::new(&given.worker, &given.folder.join(name), is_apart);
+    let benches = [bench("together", false)?, bench("apart", true)?];
     let mut random = Random::new(given.seed);
     let kept = |words| format!("{words}; the files are in {}", given.folder.display());
-    let kills = kills::kill(&bench, &mut random, kills).map_err(kept)?;
+    let kills = kills::kill(&benches, &mut random, kills).map_err(kept)?;
     println!(
         "kills: {}, of these {} in the middle of a write; {} take-ups, {} MB compared",
         kills.kills,
@@ -91,11 +94,15 @@ fn tried(given: &Given) -> Result<(), String> {
         kills.take_ups,
         kills.bytes / 1_000_000
     );
-    let damages = damage::damage(&bench, &mut random, damages).map_err(kept)?;
+    let damages = damage::damage(&benches[0], &mut random, damages).map_err(kept)?;
     println!(
         "damages: {damages} records and outputs that no worker left, each refused and begun anew"
     );
-    bench.clear()?;
+    if given.is_long {
+        largest::largest(&given.worker, &given.folder, &mut random).map_err(kept)?;
+        println!("400000000 pixels: killed on the way, taken over, and each byte right");
+    }
+    fs::remove_dir_all(&given.folder).map_err(bench::says(&given.folder))?;
     let losses = losses::lose(given.seed, losses)?;
     println!(
         "losses: {} of {} crashes lost what was not flushed, {} of them a rename; {} kills, {} take-ups, {} MB compared",

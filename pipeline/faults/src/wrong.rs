@@ -11,14 +11,16 @@ use worker::disk::Disk;
 pub enum Wrong {
     SavesFirst,
     RecordUnflushed,
+    RenameUnflushed,
     FolderUnflushed,
     NothingFlushed,
 }
 
 impl Wrong {
-    pub const ALL: [Self; 4] = [
+    pub const ALL: [Self; 5] = [
         Self::SavesFirst,
         Self::RecordUnflushed,
+        Self::RenameUnflushed,
         Self::FolderUnflushed,
         Self::NothingFlushed,
     ];
@@ -28,6 +30,7 @@ impl Wrong {
         match self {
             Self::SavesFirst => "saves its record before it flushes the output",
             Self::RecordUnflushed => "does not flush the record that it renames",
+            Self::RenameUnflushed => "does not flush the folder after the record's rename",
             Self::FolderUnflushed => "flushes no folder",
             Self::NothingFlushed => "flushes nothing",
         }
@@ -42,6 +45,8 @@ pub struct WrongDisk<'a> {
     opened_output: Cell<Option<usize>>,
     /// The output, where its flush waits for the record's.
     held_back: Cell<Option<usize>>,
+    /// Whether the last call for a folder was a rename.
+    has_renamed: Cell<bool>,
 }
 
 impl<'a> WrongDisk<'a> {
@@ -52,6 +57,7 @@ impl<'a> WrongDisk<'a> {
             output: output.to_owned(),
             opened_output: Cell::new(None),
             held_back: Cell::new(None),
+            has_renamed: Cell::new(false),
         }
     }
 
@@ -78,8 +84,11 @@ impl Disk for WrongDisk<'_> {
     }
 
     fn flush_folder(&self, folder: &Path) -> io::Result<()> {
-        if matches!(self.wrong, Wrong::FolderUnflushed | Wrong::NothingFlushed) {
-            return Ok(());
+        let has_renamed = self.has_renamed.take();
+        match self.wrong {
+            Wrong::FolderUnflushed | Wrong::NothingFlushed => return Ok(()),
+            Wrong::RenameUnflushed if has_renamed => return Ok(()),
+            _ => {}
         }
         self.seat.flush_folder(folder)?;
         match self.held_back.take() {
@@ -117,6 +126,7 @@ impl Disk for WrongDisk<'_> {
     }
 
     fn rename(&self, from: &Path, to: &Path) -> io::Result<()> {
+        self.has_renamed.set(true);
         self.seat.rename(from, to)
     }
 

@@ -7,19 +7,7 @@ use std::path::{Path, PathBuf};
 use std::str::FromStr;
 
 /// What the worker takes.
-pub const USAGE: &str = "\
-usage: worker encode PIXELS MESSAGE --width W --height H [--linear]
-       worker decode MESSAGE OUTPUT --record FILE [--every N] [--channels 3|4] [--restart]
-       worker check MESSAGE
-
-encode  PIXELS holds W x H pixels of 3 or 4 bytes each; --linear says that their colour space is linear.
-decode  writes the pixels of MESSAGE to OUTPUT, and how far it is to FILE, every N steps (16777216 where none are given). It may be killed
-        at any instant: the same command goes on from there. FILE stays after the end, and the same command is then done at once: it does
-        not look at OUTPUT's bytes again. --restart passes over what FILE holds.
-check   accepts what decodes with no run past the image and nothing after the end: width, height, channels, colour space, chunks, bytes.
-
-exit status: 0, or the number of the refusal, which stands in words on standard error (1 to 11; 9 is the record's), or 64 for wrong
-arguments, or 74 for a file that cannot be read or written.";
+pub const USAGE: &str = include_str!("../usage.txt");
 
 /// Steps between two records where none are given: about a tenth of a second's work.
 const EVERY: u64 = 1 << 24;
@@ -54,7 +42,7 @@ pub enum Command {
 /// The command of these arguments, the program's name not among them.
 pub fn parse(arguments: impl IntoIterator<Item = OsString>) -> Result<Command, Failure> {
     let mut given = Given::of(arguments)?;
-    if given.flag("--help") {
+    if given.flag("--help") || given.flag("-h") {
         return Ok(Command::Help);
     }
     let name = given.path("the command")?;
@@ -111,7 +99,7 @@ fn missing(what: &str) -> Failure {
 
 /// Options that take a value, and those that take none.
 const WITH_VALUE: [&str; 5] = ["--width", "--height", "--record", "--every", "--channels"];
-const ALONE: [&str; 3] = ["--linear", "--restart", "--help"];
+const ALONE: [&str; 4] = ["--linear", "--restart", "--help", "-h"];
 
 /// The arguments, sorted; each is taken out as it is used.
 struct Given {
@@ -174,7 +162,10 @@ impl Given {
         };
         match value.to_string_lossy().parse() {
             Ok(number) => Ok(Some(number)),
-            Err(_) => Err(Failure::usage(format!("{option} takes a number"))),
+            Err(_) => Err(Failure::usage(format!(
+                "{option} does not take {}",
+                value.to_string_lossy()
+            ))),
         }
     }
 
@@ -247,7 +238,7 @@ mod tests {
         };
         assert_eq!(parsed("check -- --m"), Ok(dashes));
         assert_eq!(parsed("--help"), Ok(Command::Help));
-        assert_eq!(parsed("decode --help"), Ok(Command::Help));
+        assert_eq!(parsed("decode -h"), Ok(Command::Help));
     }
 
     #[test]
@@ -266,7 +257,7 @@ mod tests {
         );
         assert_eq!(
             words("decode m o --record r --every x"),
-            "--every takes a number"
+            "--every does not take x"
         );
         assert_eq!(
             words("decode m o --record r --channels 5"),
@@ -281,7 +272,7 @@ mod tests {
         );
         assert_eq!(
             words("encode p m --width 4294967296 --height 1"),
-            "--width takes a number"
+            "--width does not take 4294967296"
         );
     }
 }

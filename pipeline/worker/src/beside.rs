@@ -17,12 +17,12 @@ const DIGITS: usize = 16;
 pub fn replace<D: Disk>(disk: &D, path: &Path, bytes: &[u8]) -> io::Result<()> {
     loop {
         let beside = write_beside(disk, path, bytes)?;
-        match disk.rename(beside.as_ref(), path) {
+        return match disk.rename(beside.as_ref(), path) {
+            Ok(()) => disk.flush_folder(folder(path)),
             // a worker that ended has swept it away: write it again
             Err(error) if error.kind() == ErrorKind::NotFound => continue,
-            renamed => renamed?,
-        }
-        return disk.flush_folder(folder(path));
+            Err(error) => Err(not_left(disk, beside.as_ref(), error)),
+        };
     }
 }
 
@@ -31,12 +31,16 @@ fn write_beside<D: Disk>(disk: &D, path: &Path, bytes: &[u8]) -> io::Result<OsSt
     let beside = name_beside(path);
     let file = disk.make(beside.as_ref())?;
     let written = disk.write_at(&file, bytes, 0);
-    if let Err(error) = written.and_then(|()| disk.flush(&file)) {
-        // a disk that is full must not fill up with these
-        let _ = disk.remove(beside.as_ref());
-        return Err(error);
+    match written.and_then(|()| disk.flush(&file)) {
+        Ok(()) => Ok(beside),
+        Err(error) => Err(not_left(disk, beside.as_ref(), error)),
     }
-    Ok(beside)
+}
+
+/// The error, once the file written beside is gone: a disk that is full must not fill up with these.
+fn not_left<D: Disk>(disk: &D, beside: &Path, error: io::Error) -> io::Error {
+    let _ = disk.remove(beside);
+    error
 }
 
 /// A name that nobody else takes: not even one that was swept away comes again, for its first owner would rename what the second has half written.

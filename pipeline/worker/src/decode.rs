@@ -1,10 +1,11 @@
 //! The decode that may be killed at any instant, by a kill or a power cut, and that any worker goes on with.
 //!
-//! Each line that touches OUTPUT or the record names the constructor of `Stored` (crates/demands/specs/Flushing.antt) that it is. The theorem on
-//! those histories is what makes the end right; docs/PROMISES.md says what it takes for granted of a disk, and what holds of two live workers.
+//! Where OUTPUT or the record is written or taken up, a comment names the constructor of `Stored` (crates/demands/specs/Flushing.antt) that it is. The
+//! theorem on those histories is what makes the end right; docs/PROMISES.md says what it takes for granted of a disk, and what holds of two live workers.
 use crate::beside;
 use crate::disk::{folder, Disk};
 use crate::failure::Failure;
+use crate::memory::zeros;
 use crate::saved;
 use pivotshade::{decode_header, run, start, Channels, Ran, Record};
 use std::io::{self, ErrorKind};
@@ -53,7 +54,8 @@ pub fn decode<D: Disk>(
     let first = start(&message, channels).map_err(refused)?;
     let mut worker = Worker::new(disk, job, &message, first)?;
     let answer = worker.work(&message, progress)?;
-    beside::sweep(disk, &job.record).map_err(Failure::disk("sweep beside", &job.record))?;
+    // all is done: what cannot be swept away does no harm
+    let _ = beside::sweep(disk, &job.record);
     answer.map_err(refused)
 }
 
@@ -78,21 +80,21 @@ struct Worker<'a, D: Disk> {
 impl<'a, D: Disk> Worker<'a, D> {
     /// Takes up the saved record, or begins with the first one.
     fn new(disk: &'a D, job: &'a Job, message: &[u8], first: Record) -> Result<Self, Failure> {
+        let needed = first.required_buf_len();
+        let out = zeros(needed).ok_or_else(|| Failure::no_memory(&job.output, needed))?;
         let message_sum = saved::sum(message);
-        if job.restart {
-            save(disk, job, &first, message_sum)?;
-        }
-        let saved = saved_record(disk, job, message_sum, &first)?;
+        let saved = match job.restart {
+            // saves: the first record, in the place of any other
+            true => Some(save(disk, job, &first, message_sum).map(|()| first.clone())?),
+            false => saved_record(disk, job, message_sum, &first)?,
+        };
+        make_record_last(disk, job)?;
         let is_saved = saved.is_some();
         let record = saved.unwrap_or(first);
-        let needed = record.required_buf_len();
         let copied = record.bytes_done();
         let output = match copied {
             // begun: on whatever OUTPUT holds
-            0 => {
-                forget_other_records(disk, job)?;
-                begun_output(disk, job, needed as u64)?
-            }
+            0 => begun_output(disk, job, needed as u64)?,
             // taken-up: the bytes before the record's pixel stand there
             _ => left_output(disk, job, needed as u64)?,
         };
@@ -103,7 +105,7 @@ impl<'a, D: Disk> Worker<'a, D> {
             record,
             is_saved,
             unsaved: 0,
-            out: zeros(needed).ok_or_else(|| Failure::no_memory(&job.output, needed))?,
+            out,
             copied,
             output,
             is_new: copied == 0,
@@ -227,9 +229,9 @@ fn save<D: Disk>(disk: &D, job: &Job, record: &Record, message_sum: u64) -> Resu
         .map_err(Failure::disk("save the record", &job.record))
 }
 
-/// Makes last that no record is there, or the first one: else an older one, which speaks of the bytes that OUTPUT had, might come back after OUTPUT
-/// is written. A worker that was killed may have renamed and not flushed.
-fn forget_other_records<D: Disk>(disk: &D, job: &Job) -> Result<(), Failure> {
+/// Makes last what stands in FILE, or that it is not there. A worker that was killed may have renamed and not flushed: a crash could then bring back an
+/// older record, which speaks of bytes that OUTPUT no longer has once this worker begins, or of fewer than are done.
+fn make_record_last<D: Disk>(disk: &D, job: &Job) -> Result<(), Failure> {
     disk.flush_folder(folder(&job.record))
         .map_err(Failure::disk("flush the folder of", &job.record))
 }
@@ -262,10 +264,4 @@ fn begun_output<D: Disk>(disk: &D, job: &Job, needed: u64) -> Result<D::File, Fa
         Ok(file)
     };
     make().map_err(Failure::disk("make", &job.output))
-}
-
-/// Zeros that take no memory before they are written to.
-fn zeros(length: usize) -> Option<Vec<u8>> {
-    Vec::<u8>::new().try_reserve_exact(length).ok()?;
-    Some(vec![0; length])
 }

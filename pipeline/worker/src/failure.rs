@@ -43,11 +43,19 @@ impl Failure {
         }
     }
 
-    /// The file at `path` cannot be served.
+    /// There is no memory for what the file at `path` will hold.
     pub fn no_memory(path: &Path, length: usize) -> Self {
         Self {
             status: DISK,
-            words: format!("{}: no memory for its {length} bytes", path.display()),
+            words: format!("{}: no memory for {length} bytes", path.display()),
+        }
+    }
+
+    /// What stands at `path` is no file to write to.
+    pub fn not_ordinary(path: &Path) -> Self {
+        Self {
+            status: DISK,
+            words: format!("{} is no ordinary file", path.display()),
         }
     }
 

@@ -6,5 +6,6 @@ pub mod beside;
 pub mod decode;
 pub mod disk;
 pub mod failure;
+pub mod memory;
 pub mod progress;
 pub mod saved;

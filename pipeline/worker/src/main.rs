@@ -1,5 +1,5 @@
 //! The worker: `./worker` at the root builds and runs it. What it does stands in `arguments::USAGE`.
-use pivotshade::{strict, Encoder};
+use pivotshade::{strict, ColorSpace, Encoder};
 use std::env;
 use std::fs;
 use std::io::{stderr, stdout, Write};
@@ -11,6 +11,7 @@ use worker::beside;
 use worker::decode::decode;
 use worker::disk::{folder, Disk, RealDisk};
 use worker::failure::Failure;
+use worker::memory::zeros;
 use worker::progress::Bar;
 
 fn main() -> ExitCode {
@@ -34,7 +35,7 @@ fn ended(result: Result<(), Failure>, added: &str) -> ExitCode {
 
 fn carry_out(command: Command) -> Result<(), Failure> {
     match command {
-        Command::Help => say(USAGE)?,
+        Command::Help => say(USAGE.trim_end())?,
         Command::Encode {
             pixels,
             message,
@@ -43,16 +44,17 @@ fn carry_out(command: Command) -> Result<(), Failure> {
             colorspace,
         } => {
             are_different(&[&pixels, &message])?;
+            is_ordinary(&message)?;
             let data = read(&pixels)?;
-            let encoded = Encoder::new(&data, width, height)
-                .and_then(|encoder| encoder.with_colorspace(colorspace).encode_to_vec())
-                .map_err(|error| Failure::refused(&pixels, error))?;
+            let encoded = encode(&data, width, height, colorspace, &pixels)?;
             beside::replace(&RealDisk, &message, &encoded)
                 .and_then(|()| beside::sweep(&RealDisk, &message))
                 .map_err(Failure::disk("write", &message))?;
         }
         Command::Decode(job) => {
             are_different(&[&job.message, &job.output, &job.record])?;
+            is_ordinary(&job.output)?;
+            is_ordinary(&job.record)?;
             let mut bar = Bar::new();
             decode(&RealDisk, &job, &mut |record| bar.show(record))?;
         }
@@ -74,6 +76,23 @@ fn carry_out(command: Command) -> Result<(), Failure> {
     Ok(())
 }
 
+fn encode(
+    data: &[u8],
+    width: u32,
+    height: u32,
+    colorspace: ColorSpace,
+    pixels: &Path,
+) -> Result<Vec<u8>, Failure> {
+    let refused = |error| Failure::refused(pixels, error);
+    let encoder = Encoder::new(data, width, height).map_err(refused)?;
+    let encoder = encoder.with_colorspace(colorspace);
+    let room = encoder.required_buf_len();
+    let mut message = zeros(room).ok_or_else(|| Failure::no_memory(pixels, room))?;
+    let length = encoder.encode_to_buf(&mut message).map_err(refused)?;
+    message.truncate(length);
+    Ok(message)
+}
+
 /// Prints a line.
 fn say(line: &str) -> Result<(), Failure> {
     writeln!(stdout(), "{line}").map_err(Failure::disk("write", Path::new("standard output")))
@@ -81,6 +100,14 @@ fn say(line: &str) -> Result<(), Failure> {
 
 fn read(path: &Path) -> Result<Vec<u8>, Failure> {
     RealDisk.read(path).map_err(Failure::disk("read", path))
+}
+
+/// Whether a file may be written here: a device or a link would be replaced, a pipe would wait for ever.
+fn is_ordinary(path: &Path) -> Result<(), Failure> {
+    match fs::symlink_metadata(path) {
+        Ok(there) if !there.is_file() => Err(Failure::not_ordinary(path)),
+        _ => Ok(()),
+    }
 }
 
 /// Whether no two of these paths name one file, which would be written over.

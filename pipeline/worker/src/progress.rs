@@ -29,16 +29,17 @@ impl Bar {
             return;
         }
         self.drawn = Some(Instant::now());
-        let (done, all) = (record.pixels_done(), record.header().n_pixels());
-        let marks = done * MARKS / all;
-        let percent = done * 100 / all;
+        let line = line(record.pixels_done(), record.header().n_pixels());
         // a terminal that is gone is no reason to stop decoding
-        let _ = write!(
-            stderr(),
-            "\r[{:-<MARKS$}] {percent:3}% of {all} pixels",
-            "#".repeat(marks)
-        );
+        let _ = write!(stderr(), "\r{line}");
     }
+}
+
+/// How far a decode is.
+fn line(done: usize, all: usize) -> String {
+    let marks = "#".repeat(done * MARKS / all);
+    let percent = done * 100 / all;
+    format!("[{marks:-<MARKS$}] {percent:3}% of {all} pixels")
 }
 
 impl Default for Bar {
@@ -62,4 +63,19 @@ fn is_terminal() -> bool {
     }
     // SAFETY: it takes a number, and reads and writes no memory of this program
     unsafe { isatty(2) == 1 }
+}
+
+#[cfg(test)]
+mod tests {
+    use super::line;
+
+    #[test]
+    fn a_bar_fills_up() {
+        let empty = "[----------------------------------------]   0% of 400000000 pixels";
+        let half = "[####################--------------------]  50% of 400000000 pixels";
+        let full = "[########################################] 100% of 400000000 pixels";
+        assert_eq!(line(0, 400_000_000), empty);
+        assert_eq!(line(200_000_000, 400_000_000), half);
+        assert_eq!(line(400_000_000, 400_000_000), full);
+    }
 }

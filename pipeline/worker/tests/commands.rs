@@ -2,6 +2,7 @@
 use pivotshade::{encode_to_vec, Channels, Decoder};
 use std::env;
 use std::fs;
+use std::os::unix::fs::symlink;
 use std::path::PathBuf;
 use std::process::{self, Command};
 use worker::saved;
@@ -285,6 +286,32 @@ fn what_killed_workers_left_beside_the_record_goes() {
     folder.works(DECODE);
     assert_eq!(folder.names()[..3], ["m.qoi", "out", "rec"]);
     assert_eq!(folder.names()[3..], others);
+}
+
+#[test]
+fn only_ordinary_files_are_written() {
+    let folder = decoded("ordinary");
+    fs::create_dir(folder.path("folder")).unwrap();
+    symlink("rec", folder.path("link")).unwrap();
+    symlink("nowhere", folder.path("loose")).unwrap();
+    for other in ["folder", "link", "loose", "/dev/null"] {
+        let words = format!("{other} is no ordinary file");
+        folder.refuses(&format!("decode m.qoi {other} --record new"), 74, &words);
+        folder.refuses(
+            &format!("decode m.qoi new --record {other} --restart"),
+            74,
+            &words,
+        );
+        folder.refuses(
+            &format!("encode out {other} --width 40 --height 30"),
+            74,
+            &words,
+        );
+    }
+    assert_eq!(
+        folder.names(),
+        ["folder", "link", "loose", "m.qoi", "out", "rec"]
+    );
 }
 
 #[test]
