@@ -1,5 +1,5 @@
-/* The functions that a host calls. Each returns 0 or the number of a refusal, and fills its last part, four figures: the accepted answer's, or
-   the refusal's, zeros after them. The numbers and their figures:
+/* The functions that a host calls. Each returns 0 or the number of a refusal (pivotshade_run also 256), and fills its last part, four figures: the
+   accepted answer's, or the refusal's, zeros after them. The numbers and their figures:
      1 input ended                           5 dimensions {width, height}             8 no marker after the last pixel
      2 channels {channels}                   6 image length {size, width, height}     9 bad state or record
      3 colour space {byte}                   7 output too small {size, required}     10 run past the image (strict)

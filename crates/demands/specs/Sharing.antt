@@ -18,7 +18,7 @@ Worker = State × State
 -- saved for good.
 -- A worker that is killed stays in the list and steps no more.
 pub data Shared (m : List ℕ) (w : ℕ) : List Worker → List ℕ → List ℕ → List (List ℕ) → List State → Type 0 where
-  -- no worker yet, and any output, which lasts
+  -- no worker yet, and any output: while no record is saved, a crash may leave any bytes
   nobody : (o : List ℕ) → length m < 2 ^ 64 → Shared m w [] o o [] []
   -- one more starts
   joins :
