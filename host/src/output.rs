@@ -149,7 +149,7 @@ impl Output {
     /// Holds anything at first.
     pub fn new(random: &mut Random, room: usize) -> Self {
         let mut memory = vec![0; MARGIN + room + MARGIN];
-        memory.fill_with(|| random.byte());
+        random.fill(&mut memory);
         Self {
             model: memory.clone(),
             ground: memory.clone(),
@@ -164,7 +164,7 @@ impl Output {
     /// Everything from a byte on is overwritten.
     pub fn scribble(&mut self, random: &mut Random, from: usize) {
         let end = MARGIN + self.room();
-        self.memory[MARGIN + from..end].fill_with(|| random.byte());
+        random.fill(&mut self.memory[MARGIN + from..end]);
         self.model.copy_from_slice(&self.memory);
         self.ground.copy_from_slice(&self.memory);
     }

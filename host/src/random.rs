@@ -1,4 +1,4 @@
-// Numbers that look random and are the same on every run and machine: SplitMix64.
+// Numbers that look random and are the same on every run and machine, for all tests: SplitMix64.
 pub struct Random(u64);
 
 impl Random {
@@ -26,6 +26,10 @@ impl Random {
 
     pub fn byte(&mut self) -> u8 {
         self.next() as u8
+    }
+
+    pub fn fill(&mut self, bytes: &mut [u8]) {
+        bytes.fill_with(|| self.byte());
     }
 
     /// Once in `n` times.

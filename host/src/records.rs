@@ -45,7 +45,7 @@ fn made_up(random: &mut Random, record: &mut Record) {
 /// A run of no steps: it reads the record and writes it again, and looks at neither message nor output.
 fn read(check: &mut Check, random: &mut Random, bytes: &[u8]) {
     let mut message = [0; 40];
-    message.fill_with(|| random.byte());
+    random.fill(&mut message);
     let message = &message[..random.below(40)];
     let room = match random.below(8) {
         0 => random.below(bytes.len() + 1),

@@ -1,5 +1,6 @@
 //! A disk in memory that forgets in a crash what was not flushed: bytes and lengths from a flush of their file on last, names from a flush of
 //! their folder on.
+use crate::pictures::some_bytes;
 use crate::random::Random;
 use std::ffi::OsString;
 use std::io::{self, ErrorKind};
@@ -88,7 +89,7 @@ impl Forgetful {
             if place < bytes.len() {
                 let from = random.between(place, bytes.len() - 1);
                 let to = random.between(from + 1, bytes.len());
-                bytes[from..to].copy_from_slice(&random.bytes(to - from));
+                random.fill(&mut bytes[from..to]);
             }
             self.files[file] = Bytes::lasting(bytes);
         }
@@ -231,7 +232,7 @@ impl Bytes {
             // past that moment's end: a length that came from no write brings zeros
             let missing = to - left.len();
             match self.grown && random.one_in(2) {
-                true => left.extend(random.bytes(missing)),
+                true => left.extend(some_bytes(random, missing)),
                 false => left.resize(to, 0),
             }
         }

@@ -1,6 +1,6 @@
 //! Part one: the worker itself, killed at any moment, also in the middle of a write, and others that go on from what it left.
 use crate::bench::{wait, Bench, Ended, Order, Pair};
-use crate::pictures::{a_chunk_ends_after, as_delivered, message, Family};
+use crate::pictures::{a_chunk_ends_after, as_delivered, message, some_bytes, Family};
 use crate::random::Random;
 use crate::undisturbed::{checked_output, checked_pair, first_difference, Undisturbed};
 use pivotshade::Channels;
@@ -310,7 +310,7 @@ fn some_output(random: &mut Random, decode: &Undisturbed) -> Option<Vec<u8>> {
         3 => decode.needed + random.between(1, decode.needed),
         _ => decode.needed,
     };
-    let mut bytes = random.bytes(length);
+    let mut bytes = some_bytes(random, length);
     for (byte, right) in bytes.iter_mut().zip(&decode.written) {
         if byte == right {
             *byte = !*byte;

@@ -1,6 +1,6 @@
 //! Part two: workers on a disk that forgets. The power is cut under them at any call, or one is killed, and others go on with what is left.
 use crate::forgetful::{Forgetful, Lost};
-use crate::pictures::{as_delivered, message, FAMILIES};
+use crate::pictures::{as_delivered, message, some_bytes, FAMILIES};
 use crate::random::Random;
 use crate::turns::{Left, Plan, Seat, Turns, Until};
 use crate::undisturbed::{checked_output, checked_pair, Found, Undisturbed};
@@ -127,7 +127,8 @@ impl<'a> History<'a> {
             2 => needed + self.random.between(1, needed),
             _ => needed,
         };
-        self.disk.put(&self.output, self.random.bytes(length));
+        let bytes = some_bytes(&mut self.random, length);
+        self.disk.put(&self.output, bytes);
     }
 
     /// Another decode on the same output and record, which a crash cuts off; all that it left lasts.

@@ -8,6 +8,9 @@ mod kills;
 mod largest;
 mod losses;
 mod pictures;
+// the test host's own, of which not all is needed here
+#[allow(dead_code)]
+#[path = "../../../host/src/random.rs"]
 mod random;
 mod turns;
 mod undisturbed;

@@ -80,3 +80,10 @@ pub fn a_chunk_ends_after(message: &[u8], pixels: usize) -> bool {
     }
     brought == pixels
 }
+
+/// Bytes like no others.
+pub fn some_bytes(random: &mut Random, length: usize) -> Vec<u8> {
+    let mut bytes = vec![0; length];
+    random.fill(&mut bytes);
+    bytes
+}

@@ -1,31 +1,10 @@
 // What the tests share: random numbers that are the same on every run, pictures, and messages put together by hand.
 #![allow(dead_code)] // no test uses all of it
 
-/// SplitMix64.
-pub struct Random(u64);
-
-impl Random {
-    pub fn new(seed: u64) -> Self {
-        Self(seed)
-    }
-
-    pub fn next(&mut self) -> u64 {
-        self.0 = self.0.wrapping_add(0x9e37_79b9_7f4a_7c15);
-        let mut z = self.0;
-        z = (z ^ (z >> 30)).wrapping_mul(0xbf58_476d_1ce4_e5b9);
-        z = (z ^ (z >> 27)).wrapping_mul(0x94d0_49bb_1331_11eb);
-        z ^ (z >> 31)
-    }
-
-    /// From 0 to `n - 1`.
-    pub fn below(&mut self, n: usize) -> usize {
-        (self.next() % n as u64) as usize
-    }
-
-    pub fn fill(&mut self, bytes: &mut [u8]) {
-        bytes.fill_with(|| self.next() as u8);
-    }
-}
+// the test host's own
+#[path = "../../../host/src/random.rs"]
+mod random;
+pub use random::Random;
 
 /// A picture in which every kind of chunk is likely: repeats, colours seen before, small and large differences, alpha changed now and then.
 pub fn picture(random: &mut Random, pixels: usize, channels: usize) -> Vec<u8> {
