@@ -1,4 +1,4 @@
-//! A small file replaced as a whole: written beside, flushed, renamed, its folder flushed. At every instant it has its old bytes or its new ones.
+//! A file replaced as a whole: written beside, flushed, renamed, its folder flushed. At every instant it has its old bytes or its new ones.
 use crate::disk::{folder, Disk};
 use std::collections::hash_map::RandomState;
 use std::ffi::{OsStr, OsString};

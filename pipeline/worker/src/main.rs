@@ -48,8 +48,9 @@ fn carry_out(command: Command) -> Result<(), Failure> {
             let data = read(&pixels)?;
             let encoded = encode(&data, width, height, colorspace, &pixels)?;
             beside::replace(&RealDisk, &message, &encoded)
-                .and_then(|()| beside::sweep(&RealDisk, &message))
                 .map_err(Failure::disk("write", &message))?;
+            // what cannot be swept away does no harm
+            let _ = beside::sweep(&RealDisk, &message);
         }
         Command::Decode(job) => {
             are_different(&[&job.message, &job.output, &job.record])?;
