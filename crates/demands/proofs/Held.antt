@@ -56,6 +56,10 @@ module _ (m : List ℕ) (w : ℕ) where
     -- where there is no room nothing was written
     pub short : length b < needed s → o ≡ b
 
+  -- an output that a worker takes up as it is
+  pub held-anew : (o : List ℕ) (s : State) → take (bytesBefore s) o ≡ take (bytesBefore s) (whole m w .bytes) → Held o o s
+  held-anew o s before = record { same-length = refl; before = before; beyond = refl; short = λ few. refl }
+
   -- after a step from s to s′, which made o into o′
   pub record Onward (b o : List ℕ) (s s′ : State) (o′ : List ℕ) : Type 0 where
     pub on-course : OnCourse m w s′

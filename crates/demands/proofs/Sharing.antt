@@ -1,12 +1,12 @@
 -- Workers at once over a store, proved: where each saves a record only of a state that its own flush has followed, none
 -- disturbs another, before a crash and after it, and each ends as the uncut decode.
 -- Assumes nothing.
-use mathlib.Core.Path.{_≡_, refl, sym, _∙_, ap}
+use mathlib.Core.Path.{_≡_, refl, sym, _∙_}
 use mathlib.Core.List.{List, [], _∷_, _++_, List·Memᴰ, List·Memᴰ·head, List·Memᴰ·cases-cons, List·Memᴰ·eq-of-singleton, List·Memᴰ·not-nil}
 use mathlib.Core.Logic.{_⊎_, inl, inr}
-use Prim.Native.Nat.{ℕ, _^_, _≤_, _<_}
+use Prim.Native.Nat.{ℕ, _^_, _<_}
 use native.Mathlib.Omega.{arith}
-use lib.ListN.{length, take}
+use lib.ListN.{length}
 use Rattle.rules.specs.Step.{State, started, starting, startState, more, step, steppedOver}
 use Rattle.rules.specs.Record.{recordBytes, readRecord}
 use Rattle.rules.proofs.StepLaws.{needed}
@@ -14,8 +14,8 @@ use Rattle.demands.specs.TakeOver.{bytesBefore}
 use Rattle.demands.specs.Workers.{Partly, Undisturbed}
 use Rattle.demands.specs.Flushing.{Torn}
 use Rattle.demands.specs.Sharing.{Worker, Shared, nobody, joins, takes-up, steps, stops-inside, flushes, saves, crashes}
-use Rattle.demands.proofs.Course.{whole, OnCourse, starts-on-course, starts-at-none, same-needed}
-use Rattle.demands.proofs.Held.{Held, Onward, goes-as-uncut}
+use Rattle.demands.proofs.Course.{OnCourse, starts-on-course, starts-at-none, same-needed}
+use Rattle.demands.proofs.Held.{Held, held-anew, Onward, goes-as-uncut}
 use Rattle.demands.proofs.Partly.{held-partly}
 use Rattle.demands.proofs.TakeOver.{readable}
 use Rattle.demands.proofs.Workers.{All, all-at, all-map, all-but, Working, undisturbed}
@@ -28,19 +28,35 @@ module _ (m : List ℕ) (w : ℕ) where
     idle : length o < needed t → bytesBefore t ≡ 0
     stands : (x : List ℕ) → List·Memᴰ x outputs → Stands m w t x
 
+  -- one output more, which shows now
+  safe-with :
+      (o new : List ℕ) (since : List (List ℕ)) → length new ≡ length o → (t : State) → Safe o (o ∷ since) t → Stands m w t new
+      → Safe new (new ∷ o ∷ since) t
+  safe-with o new since long t a stands =
+      record {
+        on-course = a .on-course;
+        idle = λ few. a .idle (rw (← long) few);
+        stands = λ x is. go x (List·Memᴰ·cases-cons is);
+      }
+    where
+      go : (x : List ℕ) → (x ≡ new) ⊎ List·Memᴰ x (o ∷ since) → Stands m w t x
+      go x (inl e) = rw e stands
+      go x (inr is) = a .stands x is
+
   -- a live worker: it works, and the record of its last flush may be saved
   record Sharing (b o : List ℕ) (since : List (List ℕ)) (v : Worker) : Type 0 where
     works : Working m w b o (v .0)
     safe : Safe o (o ∷ since) (v .1)
 
-  record Sound (ws : List Worker) (o b : List ℕ) (since : List (List ℕ)) (saved : List State) : Type 0 where
+  -- each live worker, any that starts now, and each record saved
+  record Intact (ws : List Worker) (o b : List ℕ) (since : List (List ℕ)) (saved : List State) : Type 0 where
     small : length m < 2 ^ 64
     same-length : length o ≡ length b
     welcome : (t : State) → OnCourse m w t → bytesBefore t ≡ 0 → Held m w b o t
     each : All (Sharing b o since) ws
     sure : (t : State) → List·Memᴰ t saved → Safe o (o ∷ since) t
 
-  module _ (ws : List Worker) (o b : List ℕ) (since : List (List ℕ)) (saved : List State) (k : Sound ws o b since saved) where
+  module _ (ws : List Worker) (o b : List ℕ) (since : List (List ℕ)) (saved : List State) (k : Intact ws o b since saved) where
     -- what a state that is safe holds of the output
     held-safe : (t : State) → Safe o (o ∷ since) t → Held m w b o t
     held-safe t a =
@@ -62,16 +78,7 @@ module _ (m : List ℕ) (w : ℕ) where
     -- the output becomes one that does for each worker for which it did
     module _ (new : List ℕ) (long : length new ≡ length o) (keeps : (t : State) → OnCourse m w t → Held m w b o t → Held m w b new t) where
       safe-moved : (t : State) → Safe o (o ∷ since) t → Safe new (new ∷ o ∷ since) t
-      safe-moved t a =
-          record {
-            on-course = a .on-course;
-            idle = λ few. a .idle (rw (← long) few);
-            stands = λ x is. go x (List·Memᴰ·cases-cons is);
-          }
-        where
-          go : (x : List ℕ) → (x ≡ new) ⊎ List·Memᴰ x (o ∷ since) → Stands m w t x
-          go x (inl e) = rw e (keeps t (a .on-course) (held-safe t a) .before)
-          go x (inr is) = a .stands x is
+      safe-moved t a = safe-with o new since long t a (keeps t (a .on-course) (held-safe t a) .before)
 
       sharing-moved : (v : Worker) → Sharing b o since v → Sharing b new (o ∷ since) v
       sharing-moved v a =
@@ -85,8 +92,8 @@ module _ (m : List ℕ) (w : ℕ) where
             safe = safe-moved (v .1) (a .safe);
           }
 
-      sound-moved : Sound ws new b (o ∷ since) saved
-      sound-moved =
+      intact-moved : Intact ws new b (o ∷ since) saved
+      intact-moved =
           record {
             small = k .small;
             same-length = long ∙ k .same-length;
@@ -95,8 +102,8 @@ module _ (m : List ℕ) (w : ℕ) where
             sure = λ t is. safe-moved t (k .sure t is);
           }
 
-    sound-joins : (s : State) → starting m w ≡ started s → Sound ((s, s) ∷ ws) o b since saved
-    sound-joins s e =
+    intact-joins : (s : State) → starting m w ≡ started s → Intact ((s, s) ∷ ws) o b since saved
+    intact-joins s e =
         let on = starts-on-course m w s (k .small) e in
         let none = starts-at-none m w s e in
         record {
@@ -113,8 +120,8 @@ module _ (m : List ℕ) (w : ℕ) where
           sure = k .sure;
         }
 
-    sound-takes-up : (r s : State) → List·Memᴰ r saved → readRecord (recordBytes r) ≡ started s → Sound ((s, s) ∷ ws) o b since saved
-    sound-takes-up r s is e =
+    intact-takes-up : (r s : State) → List·Memᴰ r saved → readRecord (recordBytes r) ≡ started s → Intact ((s, s) ∷ ws) o b since saved
+    intact-takes-up r s is e =
         let a = k .sure r is in
         let same : r ≡ s = cc (readable r (a .on-course)) in
         rw (← same)
@@ -126,30 +133,20 @@ module _ (m : List ℕ) (w : ℕ) where
           sure = k .sure;
         })
 
-    sound-crashes : (o′ : List ℕ) → Torn o since saved o′ → Sound [] o′ o′ (o ∷ since) saved
-    sound-crashes o′ torn =
+    intact-crashes : (o′ : List ℕ) → Torn o since saved o′ → Intact [] o′ o′ (o ∷ since) saved
+    intact-crashes o′ torn =
         record {
           small = k .small;
           same-length = refl;
-          welcome = λ t on none. record { same-length = refl; before = rw none; beyond = refl; short = λ few. refl };
+          welcome = λ t on none. held-anew m w o′ t (rw none);
           each = tt;
-          sure = λ t is. left-safe t is (k .sure t is);
+          sure = λ t is.
+              let a = k .sure t is in
+              safe-with o o′ since (torn .same-length) t a (torn-stands m w o o′ since saved torn t is (a .stands));
         }
-      where
-        left-safe : (t : State) → List·Memᴰ t saved → Safe o (o ∷ since) t → Safe o′ (o′ ∷ o ∷ since) t
-        left-safe t is a =
-            record {
-              on-course = a .on-course;
-              idle = λ few. a .idle (rw (← torn .same-length) few);
-              stands = λ x at. go x (List·Memᴰ·cases-cons at);
-            }
-          where
-            go : (x : List ℕ) → (x ≡ o′) ⊎ List·Memᴰ x (o ∷ since) → Stands m w t x
-            go x (inl e) = rw e (torn-stands m w o o′ since saved torn t is (a .stands))
-            go x (inr at) = a .stands x at
 
   module _ (left right : List Worker) (s f : State) (o b : List ℕ) (since : List (List ℕ)) (saved : List State)
-      (k : Sound (left ++ ((s, f) ∷ right)) o b since saved) where
+      (k : Intact (left ++ ((s, f) ∷ right)) o b since saved) where
     one : Sharing b o since (s, f)
     one = all-at (Sharing b o since) left right (s, f) (k .each)
 
@@ -157,9 +154,9 @@ module _ (m : List ℕ) (w : ℕ) where
       next : Onward m w b o s s′ (steppedOver s bytes o)
       next = goes-as-uncut m w b o s (one .works .on-course) (one .works .holds) s′ bytes e
 
-      sound-steps : Sound (left ++ ((s′, f) ∷ right)) (steppedOver s bytes o) b (o ∷ since) saved
-      sound-steps =
-          let moved = sound-moved (left ++ ((s, f) ∷ right)) o b since saved k (steppedOver s bytes o)
+      intact-steps : Intact (left ++ ((s′, f) ∷ right)) (steppedOver s bytes o) b (o ∷ since) saved
+      intact-steps =
+          let moved = intact-moved (left ++ ((s, f) ∷ right)) o b since saved k (steppedOver s bytes o)
           (next .holds .same-length ∙ sym (k .same-length)) (next .others) in
           let stays = all-at (Sharing b (steppedOver s bytes o) (o ∷ since)) left right (s, f) (moved .each) in
           record {
@@ -177,13 +174,13 @@ module _ (m : List ℕ) (w : ℕ) where
             sure = moved .sure;
           }
 
-      sound-stops-inside : (o′ : List ℕ) → Partly o (steppedOver s bytes o) o′ → Sound (left ++ ((s, f) ∷ right)) o′ b (o ∷ since) saved
-      sound-stops-inside o′ partly =
-          sound-moved (left ++ ((s, f) ∷ right)) o b since saved k o′ (partly .same-length)
+      intact-stops-inside : (o′ : List ℕ) → Partly o (steppedOver s bytes o) o′ → Intact (left ++ ((s, f) ∷ right)) o′ b (o ∷ since) saved
+      intact-stops-inside o′ partly =
+          intact-moved (left ++ ((s, f) ∷ right)) o b since saved k o′ (partly .same-length)
           (λ t on held. held-partly o (steppedOver s bytes o) o′ partly m w b t held (next .others t on held))
 
-    sound-flushes : Sound (left ++ ((s, s) ∷ right)) o b [] saved
-    sound-flushes =
+    intact-flushes : Intact (left ++ ((s, s) ∷ right)) o b [] saved
+    intact-flushes =
         record {
           small = k .small;
           same-length = k .same-length;
@@ -212,8 +209,8 @@ module _ (m : List ℕ) (w : ℕ) where
               stands = λ x is. rw (List·Memᴰ·eq-of-singleton is) (a .stands o (List·Memᴰ·head refl));
             }
 
-    sound-saves : Sound (left ++ ((s, f) ∷ right)) o b since (f ∷ saved)
-    sound-saves =
+    intact-saves : Intact (left ++ ((s, f) ∷ right)) o b since (f ∷ saved)
+    intact-saves =
         record {
           small = k .small;
           same-length = k .same-length;
@@ -226,29 +223,29 @@ module _ (m : List ℕ) (w : ℕ) where
         go t (inl e) = rw e (one .safe)
         go t (inr is) = k .sure t is
 
-  sound-nobody : (o : List ℕ) → length m < 2 ^ 64 → Sound [] o o [] []
-  sound-nobody o small =
+  intact-nobody : (o : List ℕ) → length m < 2 ^ 64 → Intact [] o o [] []
+  intact-nobody o small =
       record {
         small = small;
         same-length = refl;
-        welcome = λ t on none. record { same-length = refl; before = rw none; beyond = refl; short = λ few. refl };
+        welcome = λ t on none. held-anew m w o t (rw none);
         each = tt;
         sure = λ t is. absurd (List·Memᴰ·not-nil is);
       }
 
-sound :
+intact :
     {m : List ℕ} {w : ℕ} {ws : List Worker} {o b : List ℕ} {since : List (List ℕ)} {saved : List State} → Shared m w ws o b since saved
-    → Sound m w ws o b since saved
-sound {m} {w} (nobody o small) = sound-nobody m w o small
-sound {m} {w} (joins {s} {ws} {o} {b} {since} {saved} h e) = sound-joins m w ws o b since saved (sound h) s e
-sound {m} {w} (takes-up {s} {ws} {o} {b} {since} {saved} h r is e) = sound-takes-up m w ws o b since saved (sound h) r s is e
-sound {m} {w} (steps left right s f {s′} {o} {b} {bytes} {since} {saved} h e) =
-    sound-steps m w left right s f o b since saved (sound h) s′ bytes e
-sound {m} {w} (stops-inside left right s f {s′} {o} {b} {bytes} {since} {saved} o′ h e partly) =
-    sound-stops-inside m w left right s f o b since saved (sound h) s′ bytes e o′ partly
-sound {m} {w} (flushes left right s f {o} {b} {since} {saved} h) = sound-flushes m w left right s f o b since saved (sound h)
-sound {m} {w} (saves left right s f {o} {b} {since} {saved} h) = sound-saves m w left right s f o b since saved (sound h)
-sound {m} {w} (crashes {ws} {o} {b} {since} {saved} o′ h torn) = sound-crashes m w ws o b since saved (sound h) o′ torn
+    → Intact m w ws o b since saved
+intact {m} {w} (nobody o small) = intact-nobody m w o small
+intact {m} {w} (joins {s} {ws} {o} {b} {since} {saved} h e) = intact-joins m w ws o b since saved (intact h) s e
+intact {m} {w} (takes-up {s} {ws} {o} {b} {since} {saved} h r is e) = intact-takes-up m w ws o b since saved (intact h) r s is e
+intact {m} {w} (steps left right s f {s′} {o} {b} {bytes} {since} {saved} h e) =
+    intact-steps m w left right s f o b since saved (intact h) s′ bytes e
+intact {m} {w} (stops-inside left right s f {s′} {o} {b} {bytes} {since} {saved} o′ h e partly) =
+    intact-stops-inside m w left right s f o b since saved (intact h) s′ bytes e o′ partly
+intact {m} {w} (flushes left right s f {o} {b} {since} {saved} h) = intact-flushes m w left right s f o b since saved (intact h)
+intact {m} {w} (saves left right s f {o} {b} {since} {saved} h) = intact-saves m w left right s f o b since saved (intact h)
+intact {m} {w} (crashes {ws} {o} {b} {since} {saved} o′ h torn) = intact-crashes m w ws o b since saved (intact h) o′ torn
 
 -- in every order of the workers' steps, flushes and saves, and after every crash, each worker finds the uncut decode's
 -- bytes before its pixel, and ends as the uncut decode
@@ -256,4 +253,10 @@ pub shared :
     {m : List ℕ} {w : ℕ} {o b : List ℕ} {since : List (List ℕ)} {saved : List State} (left right : List Worker) (s f : State)
     → Shared m w (left ++ ((s, f) ∷ right)) o b since saved → Undisturbed m w b s o
 shared {m} {w} {o} {b} {since} {saved} left right s f h =
-    undisturbed m w b o s (one m w left right s f o b since saved (sound h) .works)
+    undisturbed m w b o s (one m w left right s f o b since saved (intact h) .works)
+
+-- every record ever saved can be read, and gives its state: whoever finds it may take it up
+pub saved-readable :
+    {m : List ℕ} {w : ℕ} {ws : List Worker} {o b : List ℕ} {since : List (List ℕ)} {saved : List State} → Shared m w ws o b since saved
+    → (r : State) → List·Memᴰ r saved → readRecord (recordBytes r) ≡ started r
+saved-readable h r is = readable r (intact h .sure r is .on-course)

@@ -15,7 +15,7 @@ use Rattle.rules.proofs.RecordLaws.{record-read-back}
 use Rattle.demands.specs.TakeOver.{bytesBefore, Life, begun, stepped, taken-up, stepsLeft, EndsAsUncut, runningOn}
 use Rattle.demands.proofs.Steps.{run-adds, run-keeps-before}
 use Rattle.demands.proofs.Course.{OnCourse, within, starts-on-course, starts-at-none}
-use Rattle.demands.proofs.Held.{Held, ends-as-uncut, goes-as-uncut}
+use Rattle.demands.proofs.Held.{Held, held-anew, ends-as-uncut, goes-as-uncut}
 
 -- a record of a state on course is read back
 pub readable : {m : List ℕ} {w : ℕ} (s : State) → OnCourse m w s → readRecord (recordBytes s) ≡ started s
@@ -31,7 +31,7 @@ lived-begun :
 lived-begun m w s o small e =
     record {
       on-course = starts-on-course m w s small e;
-      holds = record { same-length = refl; before = rw (starts-at-none m w s e); beyond = refl; short = λ few. refl };
+      holds = held-anew m w o s (rw (starts-at-none m w s e));
     }
 
 lived-stepped :
@@ -47,10 +47,7 @@ lived-taken-up :
 lived-taken-up m w s s′ o b o′ l agrees e =
     let same : s ≡ s′ = cc (readable s (l .on-course)) in
     rw (← same)
-    (record {
-      on-course = l .on-course;
-      holds = record { same-length = refl; before = agrees ∙ l .holds .before; beyond = refl; short = λ few. refl };
-    })
+    (record { on-course = l .on-course; holds = held-anew m w o′ s (agrees ∙ l .holds .before) })
 
 pub lived : {m : List ℕ} {w : ℕ} {s : State} {o b : List ℕ} → Life m w s o b → Lived m w s o b
 lived {m} {w} (begun {s} o small e) = lived-begun m w s o small e

@@ -15,7 +15,7 @@ use Rattle.demands.specs.TakeOver.{bytesBefore}
 use Rattle.demands.specs.Workers.{Partly, Crew, nobody, joins, takes-up, steps, stops-inside, Undisturbed}
 use Rattle.rules.proofs.StepLaws.{needed}
 use Rattle.demands.proofs.Course.{OnCourse, starts-on-course, starts-at-none, within, uncut-whole}
-use Rattle.demands.proofs.Held.{Held, ends-as-uncut, goes-as-uncut}
+use Rattle.demands.proofs.Held.{Held, held-anew, ends-as-uncut, goes-as-uncut}
 use Rattle.demands.proofs.Partly.{held-partly}
 use Rattle.demands.proofs.TakeOver.{readable}
 
@@ -58,7 +58,7 @@ module _ (m : List ℕ) (w : ℕ) (o₀ : List ℕ) where
   manned-nobody small =
       record {
         small = small;
-        welcome = λ t on none. record { same-length = refl; before = rw none; beyond = refl; short = λ few. refl };
+        welcome = λ t on none. held-anew m w o₀ t (rw none);
         each = tt;
       }
 

@@ -3,7 +3,6 @@ use mathlib.Core.Path.{_≡_, ap}
 use mathlib.Core.List.{List}
 use Prim.Native.Nat.{ℕ}
 use lib.ListN.{length}
-use Rattle.header.specs.declared.Header.{Header}
 use Rattle.header.specs.Header.{defaultHeader}
 use Rattle.rules.specs.Step.{State, startState, Started, started, notStarted}
 use Rattle.rules.specs.Record.{Recorded, recorded, notRecorded, recording, recordedOver}

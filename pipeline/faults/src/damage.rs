@@ -1,8 +1,8 @@
 //! Records and outputs that are not what a worker left: the worker refuses to go on, touches neither, and does it all with --restart.
 use crate::bench::{wait, Bench, Order, Pair};
-use crate::pictures::{as_delivered, message, FAMILIES};
+use crate::pictures::FAMILIES;
 use crate::random::Random;
-use crate::undisturbed::{checked_output, Undisturbed};
+use crate::undisturbed::{checked_output, some_decode, Undisturbed};
 use pivotshade::{start, Channels};
 use std::thread::sleep;
 use std::time::Duration;
@@ -41,8 +41,7 @@ const DAMAGES: [Damage; 8] = [
 /// Does each damage so many times: how many there were in all.
 pub fn damage(bench: &Bench, random: &mut Random, times: usize) -> Result<usize, String> {
     for damage in DAMAGES.iter().cycle().take(DAMAGES.len() * times) {
-        let channels = *random.pick(&[Channels::Rgb, Channels::Rgba]);
-        let mut decode = some_decode(random, channels);
+        let mut decode = begun_decode(random);
         let mut pair = begun(bench, random, &decode)?;
         damage.done(random, &mut decode, &mut pair);
         refused(bench, &decode, &pair).map_err(|words| format!("{damage:?}: {words}"))?;
@@ -63,7 +62,7 @@ impl Damage {
             Self::RecordCut => record.truncate(random.below(record.len())),
             Self::RecordLonger => record.push(random.next() as u8),
             Self::OtherMessage => {
-                let another = some_decode(random, decode.channels);
+                let another = begun_decode(random);
                 *record = first_record(&another.message, decode.channels);
             }
             Self::OtherBit => {
@@ -87,13 +86,12 @@ fn other(channels: Channels) -> Channels {
     }
 }
 
-fn some_decode(random: &mut Random, channels: Channels) -> Undisturbed {
+/// A decode that does some pixels: a record of 0 pixels asks nothing of the output.
+fn begun_decode(random: &mut Random) -> Undisturbed {
     loop {
         let family = *random.pick(&FAMILIES);
         let (width, height) = (random.between(100, 200), random.between(100, 200));
-        let whole = message(random, family, channels, width, height);
-        let decode = Undisturbed::new(as_delivered(random, whole), channels);
-        // a record of 0 pixels asks nothing of the output
+        let decode = some_decode(random, family, width, height);
         if !decode.written.is_empty() {
             return decode;
         }

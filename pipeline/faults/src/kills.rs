@@ -1,9 +1,10 @@
 //! Part one: the worker itself, killed at any moment, also in the middle of a write, and others that go on from what it left.
 use crate::bench::{wait, Bench, Ended, Order, Pair};
-use crate::pictures::{a_chunk_ends_after, as_delivered, message, some_bytes, Family};
+use crate::pictures::{a_chunk_ends_after, some_bytes, Family};
 use crate::random::Random;
-use crate::undisturbed::{checked_output, checked_pair, first_difference, Undisturbed};
-use pivotshade::Channels;
+use crate::undisturbed::{
+    checked_output, checked_pair, first_difference, some_decode, Undisturbed,
+};
 use std::process::Child;
 use std::thread::sleep;
 use std::time::{Duration, Instant};
@@ -53,13 +54,9 @@ const PICTURES: [(Family, usize); 12] = [
 ];
 
 fn some_decodes(random: &mut Random) -> Vec<Undisturbed> {
-    let channels = [Channels::Rgb, Channels::Rgba];
     let decodes = PICTURES.iter().map(|&(family, width)| {
         let height = random.between(width / 2, width);
-        let own = *random.pick(&channels);
-        let whole = message(random, family, own, width, height);
-        let wanted = *random.pick(&channels);
-        Undisturbed::new(as_delivered(random, whole), wanted)
+        some_decode(random, family, width, height)
     });
     decodes.collect()
 }
@@ -101,12 +98,7 @@ impl<'a> History<'a> {
         decode: &'a Undisturbed,
     ) -> Result<Self, String> {
         let before = some_output(random, decode);
-        // a chunk has some three bytes
-        let steps = decode.message.len() / 3;
-        let every = match random.below(6) {
-            0 => 2 * decode.needed,
-            _ => steps / random.between(1, SAVES),
-        };
+        let every = decode.some_every(random, SAVES);
         let mut history = Self {
             bench,
             random,

@@ -1,11 +1,10 @@
 //! Part two: workers on a disk that forgets. The power is cut under them at any call, or one is killed, and others go on with what is left.
 use crate::forgetful::{Forgetful, Lost};
-use crate::pictures::{as_delivered, message, some_bytes, FAMILIES};
+use crate::pictures::{some_bytes, FAMILIES};
 use crate::random::Random;
 use crate::turns::{Left, Plan, Seat, Turns, Until};
-use crate::undisturbed::{checked_output, checked_pair, Found, Undisturbed};
+use crate::undisturbed::{checked_output, checked_pair, some_decode, Found, Undisturbed};
 use crate::wrong::{Wrong, WrongDisk};
-use pivotshade::Channels;
 use std::mem::take;
 use std::panic::{catch_unwind, AssertUnwindSafe};
 use std::path::{Path, PathBuf};
@@ -94,7 +93,7 @@ struct History<'a> {
 
 impl<'a> History<'a> {
     fn new(mut random: Random, wrong: Option<Wrong>, counts: &'a mut Losses) -> Self {
-        let decodes = [some_decode(&mut random), some_decode(&mut random)];
+        let decodes = [small_decode(&mut random), small_decode(&mut random)];
         let messages = ["in/this", "in/other"].map(PathBuf::from);
         let folders = [("one", "one"), ("one", "two")];
         let (first, second) = random.pick(&folders);
@@ -223,12 +222,7 @@ impl<'a> History<'a> {
     /// A worker passes over a record that is there where it must, and now and then where it need not.
     fn some_job(&mut self, which: usize) -> Job {
         let decode = &self.decodes[which];
-        // a chunk has some three bytes
-        let steps = decode.message.len() / 3;
-        let every = match self.random.below(6) {
-            0 => 2 * decode.needed,
-            _ => steps / self.random.between(1, SAVES),
-        };
+        let every = decode.some_every(&mut self.random, SAVES);
         let is_anothers = matches!(self.found, Some((found, _)) if found != which);
         Job {
             message: self.messages[which].clone(),
@@ -312,13 +306,11 @@ impl<'a> History<'a> {
     }
 }
 
-/// Some message, and channels to decode it to.
-fn some_decode(random: &mut Random) -> Undisturbed {
-    let channels = [Channels::Rgb, Channels::Rgba];
-    let (family, own) = (*random.pick(&FAMILIES), *random.pick(&channels));
+/// The decode of some small picture.
+fn small_decode(random: &mut Random) -> Undisturbed {
+    let family = *random.pick(&FAMILIES);
     let (width, height) = (random.between(8, 64), random.between(8, 48));
-    let whole = message(random, family, own, width, height);
-    Undisturbed::new(as_delivered(random, whole), *random.pick(&channels))
+    some_decode(random, family, width, height)
 }
 
 /// Lets workers do these jobs at once: for each the status it ended with, if it did.

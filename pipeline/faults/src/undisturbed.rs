@@ -1,4 +1,6 @@
 //! What one undisturbed decode in memory answers and leaves, and whether a record and an output may be what a cut-off one left.
+use crate::pictures::{as_delivered, message, Family};
+use crate::random::Random;
 use pivotshade::{Channels, Decoder, Record};
 use worker::saved;
 
@@ -46,6 +48,16 @@ impl Undisturbed {
         out
     }
 
+    /// Some steps between two records: mostly for one to `saves` of them in all, about, and else more steps than there are.
+    pub fn some_every(&self, random: &mut Random, saves: usize) -> usize {
+        // a chunk has some three bytes
+        let steps = self.message.len() / 3;
+        match random.below(6) {
+            0 => 2 * self.needed,
+            _ => steps / random.between(1, saves),
+        }
+    }
+
     /// How many pixels are done where it stops.
     pub fn pixels_at_end(&self) -> usize {
         self.written.len() / usize::from(self.channels.as_u8())
@@ -58,6 +70,19 @@ impl Undisturbed {
             .header();
         (sum, record.channels(), record.header()) == (self.sum, self.channels, header)
     }
+}
+
+/// The decode of some picture of this family and size, as it may be delivered, at channels of any kind.
+pub fn some_decode(
+    random: &mut Random,
+    family: Family,
+    width: usize,
+    height: usize,
+) -> Undisturbed {
+    let channels = [Channels::Rgb, Channels::Rgba];
+    let own = *random.pick(&channels);
+    let whole = message(random, family, own, width, height);
+    Undisturbed::new(as_delivered(random, whole), *random.pick(&channels))
 }
 
 /// Number of the refusal and the whole output, which held only this byte before.

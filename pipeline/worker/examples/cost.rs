@@ -9,6 +9,12 @@ use std::process::Command;
 use std::thread::sleep;
 use std::time::{Duration, Instant};
 
+// the test host's own, of which not all is needed here
+#[allow(dead_code)]
+#[path = "../../../host/src/random.rs"]
+mod random;
+use random::Random;
+
 const WIDTH: u32 = 20_000;
 const HEIGHT: u32 = 1_000;
 const TURNS: usize = 15;
@@ -22,7 +28,8 @@ fn main() -> Answer<()> {
         ["plain", message, output, flush] => plain(message, output, flush == "flush"),
         [worker, folder] => {
             fs::create_dir_all(folder)?;
-            for (name, field) in [("rain", rain()), ("noise", noise())] {
+            let random = &mut Random::new(1);
+            for (name, field) in [("rain", rain(random)), ("noise", noise(random))] {
                 measure(worker, Path::new(folder), name, field)?;
             }
             Ok(())
@@ -129,21 +136,17 @@ fn median(mut times: Vec<Duration>) -> Duration {
 }
 
 /// Showers on dry ground, in hundredths of a millimetre.
-fn rain() -> Vec<u8> {
-    let mut random = random();
-    let showers: Vec<[i64; 3]> = (0..150)
-        .map(|_| {
-            let mut below = |n: u64| (random() % n) as i64;
-            [below(WIDTH.into()), below(HEIGHT.into()), 40 + below(300)]
-        })
-        .collect();
-    let mut cells = vec![0u32; (WIDTH * HEIGHT) as usize];
-    for [x, y, radius] in showers {
-        for row in (y - radius).max(0)..(y + radius).min(HEIGHT.into()) {
-            for column in (x - radius).max(0)..(x + radius).min(WIDTH.into()) {
+fn rain(random: &mut Random) -> Vec<u8> {
+    let (width, height) = (WIDTH as i64, HEIGHT as i64);
+    let mut cells = vec![0u32; (width * height) as usize];
+    for _ in 0..150 {
+        let mut below = |n: i64| random.below(n as usize) as i64;
+        let (x, y, radius) = (below(width), below(height), 40 + below(300));
+        for row in (y - radius).max(0)..(y + radius).min(height) {
+            for column in (x - radius).max(0)..(x + radius).min(width) {
                 let from = (row - y).pow(2) + (column - x).pow(2);
                 let rain = (radius.pow(2) - from).max(0) / 40;
-                cells[(row * i64::from(WIDTH) + column) as usize] += rain as u32;
+                cells[(row * width + column) as usize] += rain as u32;
             }
         }
     }
@@ -151,19 +154,8 @@ fn rain() -> Vec<u8> {
 }
 
 /// Pixels of which none is like another: the longest message.
-fn noise() -> Vec<u8> {
-    let mut random = random();
-    let words = 0..WIDTH as usize * HEIGHT as usize / 2;
-    words.flat_map(|_| random().to_le_bytes()).collect()
-}
-
-/// Random numbers, the same on every call.
-fn random() -> impl FnMut() -> u64 {
-    let mut state = 0x2545_f491_4f6c_dd1d_u64;
-    move || {
-        state ^= state << 13;
-        state ^= state >> 7;
-        state ^= state << 17;
-        state
-    }
+fn noise(random: &mut Random) -> Vec<u8> {
+    let mut bytes = vec![0; WIDTH as usize * HEIGHT as usize * 4];
+    random.fill(&mut bytes);
+    bytes
 }
