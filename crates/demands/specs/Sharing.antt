@@ -9,7 +9,8 @@ use Rattle.rules.specs.Record.{recordBytes, readRecord}
 use Rattle.demands.specs.Workers.{Partly}
 use Rattle.demands.specs.Flushing.{Torn}
 
--- a worker: the state where it stands, and the state at its own last flush, which it remembers
+-- a worker: the state where it stands, and the one whose record it may save: that at its own last flush or, before
+-- its first, the one where it began
 abbrev pub Worker : Type 0
 Worker = State × State
 
