@@ -1,4 +1,4 @@
--- Document 01's table of refusals: each one's number and figures, which determine it.
+-- Document 01's table of refusals and the three of document 02's Q-13: each one's number and figures, which determine it.
 use mathlib.Core.Path.{_≡_, refl, sym, _∙_, ap₂}
 use mathlib.Core.List.{List, [], _∷_}
 use mathlib.Core.Bool.{cond}
@@ -6,9 +6,9 @@ use Prim.Native.Nat.{ℕ}
 use lib.Dec.{eqb}
 use lib.ListN.{getD}
 use Rattle.pixel.specs.declared.error.Error.{Error}
-use Rattle.pixel.specs.declared.error.Error.the-variants.{UnexpectedBufferEnd, InvalidChannels, InvalidColorSpace, InvalidMagic, InvalidImageDimensions, InvalidImageLength, OutputBufferTooSmall, InvalidPadding, BadState, RunPastImage, BytesAfterMarker}
+use Rattle.pixel.specs.declared.error.Error.the-variants.{UnexpectedBufferEnd, InvalidChannels, InvalidColorSpace, InvalidMagic, InvalidImageDimensions, InvalidImageLength, OutputBufferTooSmall, InvalidPadding, BadState, RunPastImage, BytesAfterMarker, InvalidHour, InvalidCellCount, TotalTooLarge}
 
--- the number in the table's first column
+-- the number that the documents give it
 abbrev pub numberOf : Error → ℕ
 numberOf UnexpectedBufferEnd = 1
 numberOf (InvalidChannels channels) = 2
@@ -21,8 +21,11 @@ numberOf InvalidPadding = 8
 numberOf BadState = 9
 numberOf RunPastImage = 10
 numberOf BytesAfterMarker = 11
+numberOf (InvalidHour hour) = 19
+numberOf (InvalidCellCount pixels cells) = 20
+numberOf (TotalTooLarge cell) = 21
 
--- the figures in the table's order, zeros after them
+-- the figures in the documents' order, zeros after them
 abbrev pub figuresOf : Error → List ℕ
 figuresOf UnexpectedBufferEnd = 0 ∷ 0 ∷ 0 ∷ 0 ∷ []
 figuresOf (InvalidChannels channels) = channels ∷ 0 ∷ 0 ∷ 0 ∷ []
@@ -35,6 +38,9 @@ figuresOf InvalidPadding = 0 ∷ 0 ∷ 0 ∷ 0 ∷ []
 figuresOf BadState = 0 ∷ 0 ∷ 0 ∷ 0 ∷ []
 figuresOf RunPastImage = 0 ∷ 0 ∷ 0 ∷ 0 ∷ []
 figuresOf BytesAfterMarker = 0 ∷ 0 ∷ 0 ∷ 0 ∷ []
+figuresOf (InvalidHour hour) = hour ∷ 0 ∷ 0 ∷ 0 ∷ []
+figuresOf (InvalidCellCount pixels cells) = pixels ∷ cells ∷ 0 ∷ 0 ∷ []
+figuresOf (TotalTooLarge cell) = cell ∷ 0 ∷ 0 ∷ 0 ∷ []
 
 -- the refusal that a number and figures name
 abbrev refusalOf : ℕ → List ℕ → Error
@@ -48,7 +54,10 @@ refusalOf n f =
     (cond (eqb n 8) InvalidPadding
     (cond (eqb n 9) BadState
     (cond (eqb n 10) RunPastImage
-    (cond (eqb n 11) BytesAfterMarker UnexpectedBufferEnd)))))))))
+    (cond (eqb n 11) BytesAfterMarker
+    (cond (eqb n 19) (InvalidHour (getD f 0 0))
+    (cond (eqb n 20) (InvalidCellCount (getD f 0 0) (getD f 1 0))
+    (cond (eqb n 21) (TotalTooLarge (getD f 0 0)) UnexpectedBufferEnd))))))))))))
 
 -- a refusal is the one that its number and figures name
 named : (e : Error) → refusalOf (numberOf e) (figuresOf e) ≡ e
@@ -63,6 +72,9 @@ named InvalidPadding = refl
 named BadState = refl
 named RunPastImage = refl
 named BytesAfterMarker = refl
+named (InvalidHour hour) = refl
+named (InvalidCellCount pixels cells) = refl
+named (TotalTooLarge cell) = refl
 
 -- two refusals with the same number and figures are the same
 pub refusal-determined : (a b : Error) → numberOf a ≡ numberOf b → figuresOf a ≡ figuresOf b → a ≡ b

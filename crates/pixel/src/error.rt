@@ -1,4 +1,4 @@
-// The refusals of document 01, each with the number and the figures that its table gives, and in words.
+// The refusals of document 01, and 19 to 21 of document 02's Q-13, each with its number and figures, and in words.
 ghost use mathlib.Core.Path.{_≡_};
 ghost use lib.ListN.{length};
 ghost use Rattle.text.specs.Text.{textOf, putOver};
@@ -49,10 +49,23 @@ pub enum Error {
     RunPastImage,
     // Something follows the marker (strict).
     BytesAfterMarker,
+    // An hour above 743, a month's last.
+    InvalidHour {
+        hour: u64,
+    },
+    // A frame whose pixels are not as many as the table's cells.
+    InvalidCellCount {
+        pixels: usize,
+        cells: usize,
+    },
+    // The first cell whose total would pass 2^64-1.
+    TotalTooLarge {
+        cell: usize,
+    },
 }
 
 impl Error {
-    // The number of document 01's table.
+    // The number that the documents give it.
     pub fn number(self) -> u64
         ensures { λ r. ⌜ r ≡ numberOf self ⌝ }
     {
@@ -78,10 +91,16 @@ impl Error {
             Error::BadState => 9,
             Error::RunPastImage => 10,
             Error::BytesAfterMarker => 11,
+            Error::InvalidHour { hour: _ } => 19,
+            Error::InvalidCellCount {
+                pixels: _,
+                cells: _,
+            } => 20,
+            Error::TotalTooLarge { cell: _ } => 21,
         }
     }
 
-    // The figures in the table's order, zeros after them.
+    // The figures in the documents' order, zeros after them.
     pub fn figures(self) -> FourFigures
         ensures { λ r. ⌜ r ≡ figuresOf self ⌝ }
     {
@@ -101,6 +120,9 @@ impl Error {
             Error::BadState => [0, 0, 0, 0],
             Error::RunPastImage => [0, 0, 0, 0],
             Error::BytesAfterMarker => [0, 0, 0, 0],
+            Error::InvalidHour { hour } => [hour, 0, 0, 0],
+            Error::InvalidCellCount { pixels, cells } => [pixels as u64, cells as u64, 0, 0],
+            Error::TotalTooLarge { cell } => [cell as u64, 0, 0, 0],
         }
     }
 

@@ -48,6 +48,19 @@ pub fn of(number: u64, a: u64, b: u64, c: u64) -> Text
     if number == 11 {
         return text.words(b"invalid length (bytes after the stream end marker)");
     }
+    if number == 19 {
+        return text.figure(b"invalid hour: ", a)
+            .words(b" (expected 0 to 743)");
+    }
+    if number == 20 {
+        return text.figure(b"invalid number of cells: ", a)
+            .figure(b" pixels for ", b)
+            .words(b" cells");
+    }
+    if number == 21 {
+        return text.figure(b"total too large: cell ", a)
+            .words(b" would pass 18446744073709551615");
+    }
     text.figure(b"unknown refusal: ", number)
 }
 

@@ -8,7 +8,7 @@ use borrow.Author.Tests.{le-ltb}
 use lib.Dec.{leb→le}
 use lib.ListN.{length, take}
 use Rattle.pixel.specs.declared.error.Error.{Error}
-use Rattle.pixel.specs.declared.error.Error.the-variants.{UnexpectedBufferEnd, InvalidChannels, InvalidColorSpace, InvalidMagic, InvalidImageDimensions, InvalidImageLength, OutputBufferTooSmall, InvalidPadding, BadState, RunPastImage, BytesAfterMarker}
+use Rattle.pixel.specs.declared.error.Error.the-variants.{UnexpectedBufferEnd, InvalidChannels, InvalidColorSpace, InvalidMagic, InvalidImageDimensions, InvalidImageLength, OutputBufferTooSmall, InvalidPadding, BadState, RunPastImage, BytesAfterMarker, InvalidHour, InvalidCellCount, TotalTooLarge}
 use Rattle.pixel.specs.Bytes.{AllBytes}
 use Rattle.pixel.specs.Refusal.{numberOf}
 use Rattle.header.specs.Header.{pixelCount}
@@ -32,7 +32,7 @@ use Rattle.qoi.specs.Hosted.{startedFigures, startedOver, recordedFigures, ranF
 use Rattle.promises.specs.Hosts.{says, returned, recordRoom, Host, starts, runs, takes-over, EndsAsDecode, TakesOver, Starts, TestsRecord}
 
 -- a refusal's number is neither 0 nor 256
-pub number-small : (e : Error) → (1 ≤ numberOf e) × (numberOf e ≤ 11)
+pub number-small : (e : Error) → (1 ≤ numberOf e) × (numberOf e ≤ 21)
 number-small UnexpectedBufferEnd = (omega arith, omega arith)
 number-small (InvalidChannels channels) = (omega arith, omega arith)
 number-small (InvalidColorSpace byte) = (omega arith, omega arith)
@@ -44,6 +44,9 @@ number-small InvalidPadding = (omega arith, omega arith)
 number-small BadState = (omega arith, omega arith)
 number-small RunPastImage = (omega arith, omega arith)
 number-small BytesAfterMarker = (omega arith, omega arith)
+number-small (InvalidHour hour) = (omega arith, omega arith)
+number-small (InvalidCellCount pixels cells) = (omega arith, omega arith)
+number-small (TotalTooLarge cell) = (omega arith, omega arith)
 
 -- the record in a host's hands is of a history of demand 3
 record Lives (m : List ℕ) (w : ℕ) (r o b : List ℕ) : Type 0 where

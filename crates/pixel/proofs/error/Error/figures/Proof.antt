@@ -22,10 +22,22 @@ returns-6 c = rw (c .before .self5 .given .1)
 returns-7 : tie.Need-returns-7
 returns-7 c = rw (c .before .self6 .given .1)
 
+returns-12 : tie.Need-returns-12
+returns-12 c = rw (c .before .self7 .given .1)
+
+returns-13 : tie.Need-returns-13
+returns-13 c = rw (c .before .self8 .given .1)
+
+returns-14 : tie.Need-returns-14
+returns-14 c = rw (c .before .self9 .given .1)
+
 pub figures-spec : {M : Type 1} → statement M
 figures-spec =
     tie.close
     (tie.spec
+    (λ c. search needs)
+    (λ c. search needs)
+    (λ c. search needs)
     (λ c. search needs)
     (λ c. search needs)
     (λ c. search needs)
@@ -54,4 +66,7 @@ figures-spec =
     (λ c. search needs)
     (λ c. search needs)
     (λ c. search needs)
-    (λ c. search needs))
+    (λ c. search needs)
+    returns-12
+    returns-13
+    returns-14)
