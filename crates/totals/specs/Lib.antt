@@ -1,0 +1,3 @@
+-- Rain totals as definitions: what one call answers and leaves, and the answers of its parts.
+pub mod Counting
+pub mod Framing
