@@ -11,12 +11,21 @@ use Rattle.rules.specs.Encode.{encoding}
 use Rattle.rules.specs.Step.{State, Started, started, notStarted, Ran, going, ended, outputOf, starting, running}
 use Rattle.rules.specs.Record.{Recorded, recorded, notRecorded, recording, recordedOver, readRecord}
 use Rattle.rules.specs.Strict.{strict}
+use Rattle.totals.specs.declared.Counted.{Counted}
+use Rattle.totals.specs.declared.Counted.the-variants.{Done, Already, Refused}
+use Rattle.totals.specs.Counting.{Table, Call, counting, frameAfter}
 use Rattle.rules.specs.Figures.{refusalFigures, answerFigures, encodeFigures, strictFigures, wordedFigures}
 
 -- writing a record: the number and the record's length, or why it was not written
 abbrev pub recordedFigures : ℕ → Recorded → List ℕ
 recordedFigures number (recorded size) = number ∷ size ∷ 0 ∷ 0 ∷ 0 ∷ []
 recordedFigures number (notRecorded e) = refusalFigures e
+
+-- counting: the message bytes used, or 257, counted already
+abbrev pub countedFigures : Counted → List ℕ
+countedFigures (Done used) = 0 ∷ used ∷ 0 ∷ 0 ∷ 0 ∷ []
+countedFigures Already = 257 ∷ 0 ∷ 0 ∷ 0 ∷ 0 ∷ []
+countedFigures (Refused e) = refusalFigures e
 
 -- a start: the refusal, or the answer of writing the state's record
 abbrev pub startedFigures : Started → List ℕ → List ℕ
@@ -81,6 +90,16 @@ IsRun message steps bytes out next figures leftOut leftNext =
     (figures ≡ hostFigures message steps out next (readRecord bytes))
     × ((leftOut ≡ hostOut message steps out (readRecord bytes))
     × (leftNext ≡ hostNext message steps out next (readRecord bytes)))
+
+-- counting is lent a frame's buffer and a table, its totals and its marks
+abbrev pub IsCount : List ℕ → ℕ → List ℕ → List ℕ → List ℕ → List ℕ → List ℕ → List ℕ → List ℕ → Type 0
+IsCount message hour frame totals marks figures leftFrame leftTotals leftMarks =
+    let table : Table = record { totals = totals; marks = marks } in
+    let call : Call = record { hour = hour; message = message; room = length frame } in
+    (figures ≡ countedFigures (counting table call .answer))
+    × (leftFrame ≡ frameAfter table hour message frame)
+    × (leftTotals ≡ counting table call .table .totals)
+    × (leftMarks ≡ counting table call .table .marks)
 
 -- the words of a number and its figures
 abbrev pub IsText : ℕ → List ℕ → List ℕ → List ℕ → List ℕ → Type 0

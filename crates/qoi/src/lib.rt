@@ -4,7 +4,7 @@ ghost use mathlib.Core.List.{_∷_, []};
 ghost use Rattle.header.specs.Header.{headerOf};
 ghost use Rattle.rules.specs.Figures.{refusalFigures, headerFigures};
 ghost use Rattle.resume.specs.State.{stateOf};
-ghost use Rattle.qoi.specs.Hosted.{IsDecode, IsEncode, IsStrict, IsRecord, IsStart, IsRun, IsText};
+ghost use Rattle.qoi.specs.Hosted.{IsDecode, IsEncode, IsStrict, IsRecord, IsStart, IsRun, IsText, IsCount};
 use decode::Decoded;
 use encode::Encoded;
 use header::HeaderRead;
@@ -17,6 +17,8 @@ use resume::StartAnswer;
 use resume::StepAnswer;
 use resume::Written;
 use strict::StrictAnswer;
+use totals::Counted;
+use totals::Marks;
 
 // A refusal's number, with its figures.
 fn refuse(e: Error, figures: &mut FourFigures) -> u64
@@ -169,6 +171,26 @@ pub extern "C" fn pivotshade_run(
                 }
             }
         }
+    }
+}
+
+// Counts an hour's message into a table: the message bytes used. 257 is counted already.
+#[no_mangle]
+pub extern "C" fn pivotshade_count(
+    message: &[u8],
+    hour: u64,
+    frame: &mut [u8],
+    totals: &mut [u64],
+    marks: &mut Marks,
+    figures: &mut FourFigures,
+) -> u64
+    ensures { λ r. ⌜ IsCount (now (message .entry)) hour (now (frame .entry)) (now (totals .entry)) (now (marks .entry))
+        (r ∷ now (figures .exit)) (now (frame .exit)) (now (totals .exit)) (now (marks .exit)) ⌝ }
+{
+    match totals::count(message, hour, frame, totals, marks) {
+        Counted::Refused(e) => refuse(e, figures),
+        Counted::Already => answer(257, 0, 0, figures),
+        Counted::Done { used } => answer(0, used as u64, 0, figures),
     }
 }
 
