@@ -262,6 +262,7 @@ fn cut_off() -> io::Error {
 
 impl Disk for Seat<'_> {
     type File = usize;
+    type Lock = ();
 
     fn open(&self, path: &Path) -> io::Result<usize> {
         self.call(|disk| disk.open(path))
@@ -330,5 +331,9 @@ impl Disk for Seat<'_> {
             disk.flush_folder(folder);
             Ok(())
         })
+    }
+
+    fn lock(&self, _: &Path) -> io::Result<()> {
+        Ok(())
     }
 }

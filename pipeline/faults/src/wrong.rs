@@ -71,6 +71,7 @@ impl<'a> WrongDisk<'a> {
 
 impl Disk for WrongDisk<'_> {
     type File = usize;
+    type Lock = ();
 
     fn flush(&self, file: &usize) -> io::Result<()> {
         let is_output = self.opened_output.get() == Some(*file);
@@ -136,5 +137,9 @@ impl Disk for WrongDisk<'_> {
 
     fn names(&self, folder: &Path) -> io::Result<Vec<OsString>> {
         self.seat.names(folder)
+    }
+
+    fn lock(&self, path: &Path) -> io::Result<()> {
+        self.seat.lock(path)
     }
 }

@@ -1,7 +1,8 @@
-//! What the worker asks of a disk: the few calls that a decode and its record rest on. docs/PROMISES.md says what is assumed of them.
+//! What the worker asks of a disk: the few calls that a decode with its record, and a count with its table, rest on. docs/PROMISES.md says what is
+//! assumed of them.
 use std::ffi::OsString;
 use std::fs::{self, File, OpenOptions};
-use std::io;
+use std::io::{self, ErrorKind};
 use std::os::unix::fs::FileExt;
 use std::os::unix::io::AsRawFd;
 use std::path::Path;
@@ -10,6 +11,8 @@ use std::path::Path;
 pub trait Disk {
     /// An open file.
     type File;
+    /// A lock that is held. Dropping it lets go, and so does the end of the worker that has it, whatever ends it.
+    type Lock;
     /// Opens a file that is there, to write at places; what it holds stays.
     fn open(&self, path: &Path) -> io::Result<Self::File>;
     /// The same, of a file that is made, empty, where it is missing.
@@ -34,6 +37,9 @@ pub trait Disk {
     fn names(&self, folder: &Path) -> io::Result<Vec<OsString>>;
     /// Makes a folder's names last.
     fn flush_folder(&self, folder: &Path) -> io::Result<()>;
+    /// Takes the lock of a path, and waits while somebody else has it. Its file is made where it is missing, and nobody removes it: two workers would
+    /// then lock two files of one name.
+    fn lock(&self, path: &Path) -> io::Result<Self::Lock>;
 }
 
 /// The folder that a path names a file of.
@@ -52,6 +58,7 @@ const MUCH: usize = 1 << 16;
 
 impl Disk for RealDisk {
     type File = File;
+    type Lock = File;
 
     fn open(&self, path: &Path) -> io::Result<File> {
         OpenOptions::new().write(true).open(path)
@@ -110,6 +117,16 @@ impl Disk for RealDisk {
     fn flush_folder(&self, folder: &Path) -> io::Result<()> {
         File::open(folder)?.sync_all()
     }
+
+    fn lock(&self, path: &Path) -> io::Result<File> {
+        let file = self.open_or_make(path)?;
+        loop {
+            match lock_alone(&file) {
+                Err(error) if error.kind() == ErrorKind::Interrupted => continue,
+                locked => return locked.map(|()| file),
+            }
+        }
+    }
 }
 
 /// Has the disk begin with bytes that a flush will wait for, while the decode goes on. Nothing rests on it, so its answer does not matter.
@@ -121,4 +138,18 @@ fn begin_to_flush(file: &File, length: usize, place: u64) {
     const WRITE: u32 = 2;
     // SAFETY: it takes numbers, reads and writes no memory of this program, and leaves the file's bytes as they are
     unsafe { sync_file_range(file.as_raw_fd(), place as i64, length as i64, WRITE) };
+}
+
+/// Waits until nobody else has this file locked, and locks it until it is closed: by its owner, or by the system where its owner ends.
+#[allow(unsafe_code)]
+fn lock_alone(file: &File) -> io::Result<()> {
+    extern "C" {
+        fn flock(descriptor: i32, operation: i32) -> i32;
+    }
+    const ALONE: i32 = 2;
+    // SAFETY: it takes numbers, and reads and writes no memory of this program
+    match unsafe { flock(file.as_raw_fd(), ALONE) } {
+        0 => Ok(()),
+        _ => Err(io::Error::last_os_error()),
+    }
 }
