@@ -1,9 +1,10 @@
-/* The functions that a host calls. Each returns 0 or the number of a refusal (pivotshade_run also 256), and fills its last part, four figures: the
-   accepted answer's, or the refusal's, zeros after them. The numbers and their figures:
+/* The functions that a host calls. Each returns 0 or the number of a refusal (pivotshade_run also 256, pivotshade_count also 257), and fills its last
+   part, four figures: the accepted answer's, or the refusal's, zeros after them. The numbers and their figures:
      1 input ended                           5 dimensions {width, height}             8 no marker after the last pixel
      2 channels {channels}                   6 image length {size, width, height}     9 bad state or record
      3 colour space {byte}                   7 output too small {size, required}     10 run past the image (strict)
      4 magic {magic}                                                                 11 bytes after the marker (strict)
+    19 hour {hour}                          20 number of cells {pixels, cells}       21 total too large {cell}
    Parts that are lent to one call do not overlap, and each pointer is good for its length; figures has room for four numbers. */
 #ifndef PIVOTSHADE_H
 #define PIVOTSHADE_H
@@ -35,7 +36,8 @@ uint64_t pivotshade_strict(const uint8_t *msg, size_t len, uint64_t figures[4]);
 
 /* A refusal in words, in ASCII with no 0 byte at their end. `number` is what a call returned, `figures` what it filled: they are only read, and
    answer is another place. 0: the words stand at the front of out, and answer[0] is their length. 7 {out_len, required}: nothing is written.
-   Of a number that is no refusal, as 0 and PIVOTSHADE_MORE, they say `unknown refusal: n`. With PIVOTSHADE_TEXT_MAX bytes 7 never comes. */
+   Of a number that is no refusal, as 0, PIVOTSHADE_MORE and PIVOTSHADE_COUNTED_ALREADY, they say `unknown refusal: n`. With PIVOTSHADE_TEXT_MAX
+   bytes 7 never comes. */
 #define PIVOTSHADE_TEXT_MAX 160
 uint64_t pivotshade_text(uint64_t number, const uint64_t figures[4], uint8_t *out, size_t out_len, uint64_t answer[4]);
 
@@ -72,6 +74,31 @@ uint64_t pivotshade_start(const uint8_t *msg, size_t len, uint64_t wanted, uint8
 #define PIVOTSHADE_MORE 256
 uint64_t pivotshade_run(const uint8_t *msg, size_t len, const uint8_t *record, size_t record_len, uint8_t *out, size_t out_len, uint64_t steps,
                         uint8_t *next, size_t next_len, uint64_t figures[4]);
+
+/* Counts the rain of an hour, once however often its message comes. A month's table is two parts: totals, a number for each of `cells` cells, and
+   marks, a byte for each of the hours 0 to 743, which is marked where the byte is not 0. A fresh table is all zeros. A message's picture is the
+   hour's frame: a pixel is a cell, and its four bytes as one number, the first one highest, are the cell's rain in hundredths of a millimetre.
+
+   0: counted. Each total has grown by its cell's rain, marks[hour] is 1, and no other mark has changed. Message bytes used.
+   PIVOTSHADE_COUNTED_ALREADY: the hour is marked. No figures: four zeros.
+   Else a refusal. Whatever is returned but 0, totals and marks are as they were, so an hour whose frame is refused may come again.
+
+   What is returned, in this order, and what frame holds then:
+   - 19 for an hour above 743, and then PIVOTSHADE_COUNTED_ALREADY: what it held. msg is not looked at.
+   - What pivotshade_decode to 4 wanted channels refuses, 1 to 5, 7 and 8: what that leaves in its output.
+   - 2 {3} for a message of three channels, which is no frame; 20 where the picture has not `cells` pixels; 21 where a total would pass 2^64-1,
+     with the first cell whose total would; 0: in each case the whole picture, four bytes a pixel.
+   frame needs width x height x 4 bytes; of a longer one the end stays as it was. From a fresh table on 21 never comes.
+
+   A host owes, and the call cannot see:
+   - totals and marks of one table: an hour's mark says that its rain is in the totals;
+   - parts that do not overlap, and that nobody else writes during the call: msg, frame, totals, marks and figures are five different places.
+
+   A host that keeps its table writes totals and marks as one, so that a store that is cut off holds both from before a call or both from after it:
+   rain without its mark would be counted again, and a mark without its rain would keep it out for good. */
+#define PIVOTSHADE_COUNTED_ALREADY 257
+uint64_t pivotshade_count(const uint8_t *msg, size_t len, uint64_t hour, uint8_t *frame, size_t frame_len, uint64_t *totals, size_t cells,
+                          uint8_t marks[744], uint64_t figures[4]);
 
 #ifdef __cplusplus
 }
