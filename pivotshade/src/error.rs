@@ -3,7 +3,7 @@ use crate::ffi::{self, Answer};
 use std::convert::Infallible;
 use std::fmt;
 
-/// Why something was refused: crate qoi's variants, then three that are added.
+/// Why something was refused: crate qoi's variants, then six that are added.
 ///
 /// Crate qoi's `IoError` is missing, since nothing here reads or writes a stream. So unlike crate qoi's this type can be copied and compared.
 ///
@@ -67,13 +67,30 @@ pub enum Error {
     RunPastImage,
     /// Bytes after the end marker, which the strict check alone refuses (added).
     BytesAfterMarker,
+    /// An hour above 743, which a count refuses (added).
+    InvalidHour {
+        /// The hour.
+        hour: u64,
+    },
+    /// A frame that has not a pixel for each of the table's cells (added).
+    InvalidCellCount {
+        /// The frame's pixels.
+        pixels: usize,
+        /// The table's cells.
+        cells: usize,
+    },
+    /// A total that would pass 2^64-1, which does not occur from a fresh table on (added).
+    TotalTooLarge {
+        /// The first cell whose total would.
+        cell: usize,
+    },
 }
 
 /// A result whose error is [`Error`].
 pub type Result<T> = std::result::Result<T, Error>;
 
 impl Error {
-    /// The refusal's number, from 1 to 11, as the functions of `include/pivotshade.h` return it.
+    /// The refusal's number, from 1 to 11 or from 19 to 21, as the functions of `include/pivotshade.h` return it.
     pub const fn number(&self) -> u64 {
         self.told().0
     }
@@ -109,6 +126,9 @@ impl Error {
             Self::BadState => (9, [0; 4]),
             Self::RunPastImage => (10, [0; 4]),
             Self::BytesAfterMarker => (11, [0; 4]),
+            Self::InvalidHour { hour } => (19, [hour, 0, 0, 0]),
+            Self::InvalidCellCount { pixels, cells } => (20, [pixels as u64, cells as u64, 0, 0]),
+            Self::TotalTooLarge { cell } => (21, [cell as u64, 0, 0, 0]),
         }
     }
 
@@ -138,6 +158,12 @@ impl Error {
             9 => Self::BadState,
             10 => Self::RunPastImage,
             11 => Self::BytesAfterMarker,
+            19 => Self::InvalidHour { hour: a },
+            20 => Self::InvalidCellCount {
+                pixels: a as usize,
+                cells: b as usize,
+            },
+            21 => Self::TotalTooLarge { cell: a as usize },
             _ => unreachable!("no proved function returns {number} here"),
         }
     }

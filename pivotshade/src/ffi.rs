@@ -10,6 +10,12 @@ pub type Answer = (u64, [u64; 4]);
 /// What a run returns that has more to do.
 pub const MORE: u64 = 256;
 
+/// What a count returns whose hour is marked.
+pub const COUNTED_ALREADY: u64 = 257;
+
+/// Bytes of a table's marks.
+pub const HOURS: usize = 744;
+
 /// With as many bytes for a record no call lacks room for it.
 pub const RECORD_MAX: usize = 290;
 
@@ -62,6 +68,17 @@ extern "C" {
         steps: u64,
         next: *mut u8,
         next_length: usize,
+        figures: *mut [u64; 4],
+    ) -> u64;
+    fn pivotshade_count(
+        message: *const u8,
+        length: usize,
+        hour: u64,
+        frame: *mut u8,
+        frame_length: usize,
+        totals: *mut u64,
+        cells: usize,
+        marks: *mut [u8; HOURS],
         figures: *mut [u64; 4],
     ) -> u64;
 }
@@ -160,6 +177,33 @@ pub fn run(message: &[u8], record: &[u8], out: &mut [u8], steps: u64, next: &mut
             steps,
             next.as_mut_ptr(),
             next.len(),
+            &mut figures,
+        )
+    };
+    (number, figures)
+}
+
+/// Message bytes used; or `COUNTED_ALREADY` and zeros.
+pub fn count(
+    message: &[u8],
+    hour: u64,
+    frame: &mut [u8],
+    totals: &mut [u64],
+    marks: &mut [u8; HOURS],
+) -> Answer {
+    let mut figures = [0; 4];
+    // SAFETY: each pointer has its own slice's length, and `marks` the one that its type says; `message` is only read, and the `&mut` borrows `frame`,
+    // `totals`, `marks` and `figures` overlap nothing.
+    let number = unsafe {
+        pivotshade_count(
+            message.as_ptr(),
+            message.len(),
+            hour,
+            frame.as_mut_ptr(),
+            frame.len(),
+            totals.as_mut_ptr(),
+            totals.len(),
+            marks,
             &mut figures,
         )
     };

@@ -1,4 +1,5 @@
-//! A proved QOI codec with the names and shapes of crate qoi 0.4.1, and a decode that another worker can take over.
+//! A proved QOI codec with the names and shapes of crate qoi 0.4.1, a decode that another worker can take over, and rain totals that count each hour
+//! once.
 //!
 //! A program that uses crate qoi on slices and vectors changes one line, `use qoi::…` to `use pivotshade::…`:
 //!
@@ -22,8 +23,8 @@
 //!
 //! # What is proved
 //!
-//! Messages are read, written and checked, records are read and run, and refusals are put into words by functions that are written in Rattle and
-//! proved to meet their contracts. They stand in the archive `libqoi.a`. This crate lends them slices and gives their answers names. Its own are a
+//! Messages are read, written, checked and counted, records are read and run, and refusals are put into words by functions that are written in Rattle
+//! and proved to meet their contracts. They stand in the archive `libqoi.a`. This crate lends them slices and gives their answers names. Its own are a
 //! few sums ([`encode_max_len`], [`Header::n_pixels`], [`Header::n_bytes`]), the test of [`Header::try_new`], the numbers of [`Channels`] and
 //! [`ColorSpace`], and [`Record`]'s look at its own numbers; its tests hold them to the proved functions.
 //!
@@ -32,8 +33,9 @@
 //! - A decode in steps: [`start`] makes a [`Record`], [`run`] goes on from one. Another worker may go on from any record that was saved, also where
 //!   the first one was cut off.
 //! - [`strict()`]: whether a message has nothing that a decode would pass over.
+//! - Rain totals: a [`Table`] for a month, and [`Table::count`], which adds an hour's frame to it once, however often it comes.
 //! - [`rest`] and [`Decoder::data`]: what follows a message.
-//! - [`Error::number`] and [`Error::figures`], and three refusals.
+//! - [`Error::number`] and [`Error::figures`], and six refusals.
 //!
 //! # What differs from crate qoi
 //!
@@ -41,7 +43,7 @@
 //! - No features, and `std` is needed. The encoder is that of crate qoi without its feature `reference`.
 //! - An output that is longer than needed, [`Decoder::data`] after a decode and a second decode: see [`Decoder`].
 //! - [`encode_max_len`] and [`Header::n_bytes`] stop at 2^64-1.
-//! - [`Error`] has three variants more, so a `match` over all of it needs them.
+//! - [`Error`] has six variants more, so a `match` over all of it needs them.
 //!
 //! # Building
 //!
@@ -63,6 +65,7 @@ mod ffi;
 mod header;
 mod steps;
 mod strict;
+mod totals;
 mod types;
 
 pub use decode::{decode_to_buf, decode_to_vec, rest, Decoder};
@@ -71,4 +74,5 @@ pub use error::{Error, Result};
 pub use header::{decode_header, Header};
 pub use steps::{run, start, Ran, Record};
 pub use strict::{strict, Strict};
+pub use totals::{Counted, Table};
 pub use types::{Channels, ColorSpace};

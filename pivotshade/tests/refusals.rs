@@ -4,7 +4,7 @@ mod common;
 use common::{header, message};
 use pivotshade::{
     decode_header, decode_to_buf, decode_to_vec, encode_to_buf, encode_to_vec, start, strict,
-    Channels, ColorSpace, Encoder, Error, Header, Record,
+    Channels, ColorSpace, Encoder, Error, Header, Record, Table,
 };
 
 /// A refusal that came, and what it must be and say.
@@ -182,6 +182,55 @@ fn bytes_after_marker() {
 }
 
 #[test]
+fn invalid_hour() {
+    let refused = |hour| Table::fresh(1).count([], hour, &mut []).unwrap_err();
+    is(
+        refused(744),
+        Error::InvalidHour { hour: 744 },
+        19,
+        [744, 0, 0, 0],
+        "invalid hour: 744 (expected 0 to 743)",
+    );
+    assert_eq!(refused(743), Error::UnexpectedBufferEnd);
+}
+
+#[test]
+fn invalid_cell_count() {
+    let mut frame = [0xee; 24];
+    is(
+        Table::fresh(4)
+            .count(message(6, 4, &[0xc5]), 0, &mut frame)
+            .unwrap_err(),
+        Error::InvalidCellCount {
+            pixels: 6,
+            cells: 4,
+        },
+        20,
+        [6, 4, 0, 0],
+        "invalid number of cells: 6 pixels for 4 cells",
+    );
+    assert_eq!(frame, [[0, 0, 0, 255]; 6].concat()[..]);
+}
+
+#[test]
+fn total_too_large() {
+    let mut totals = vec![0; 18];
+    totals[17] = u64::MAX - 254;
+    let mut table = Table::from_parts(totals, [0; Table::HOURS]);
+    let mut frame = [0xee; 72];
+    is(
+        table
+            .count(message(18, 4, &[0xd1]), 0, &mut frame)
+            .unwrap_err(),
+        Error::TotalTooLarge { cell: 17 },
+        21,
+        [17, 0, 0, 0],
+        "total too large: cell 17 would pass 18446744073709551615",
+    );
+    assert_eq!(frame, [[0, 0, 0, 255]; 18].concat()[..]);
+}
+
+#[test]
 fn figures_of_any_size_have_words() {
     let (size, required) = (usize::MAX, usize::MAX);
     let (width, height) = (u32::MAX, u32::MAX);
@@ -201,6 +250,21 @@ fn figures_of_any_size_have_words() {
         (
             Error::InvalidMagic { magic: u32::MAX },
             "invalid magic: expected 1903126886, got [255, 255, 255, 255]",
+        ),
+        (
+            Error::InvalidHour { hour: u64::MAX },
+            "invalid hour: 18446744073709551615 (expected 0 to 743)",
+        ),
+        (
+            Error::InvalidCellCount {
+                pixels: usize::MAX,
+                cells: usize::MAX,
+            },
+            "invalid number of cells: 18446744073709551615 pixels for 18446744073709551615 cells",
+        ),
+        (
+            Error::TotalTooLarge { cell: usize::MAX },
+            "total too large: cell 18446744073709551615 would pass 18446744073709551615",
         ),
     ] {
         assert_eq!(error.to_string(), words);
