@@ -1,6 +1,6 @@
 //! The worker's arguments.
-use crate::decode::Job;
 use crate::failure::Failure;
+use crate::{count, decode};
 use pivotshade::{Channels, ColorSpace};
 use std::ffi::OsString;
 use std::path::{Path, PathBuf};
@@ -31,11 +31,18 @@ pub enum Command {
         colorspace: ColorSpace,
     },
     /// Decode a message.
-    Decode(Job),
+    Decode(decode::Job),
     /// Check a message.
     Check {
         /// Its path.
         message: PathBuf,
+    },
+    /// Count a message.
+    Count(count::Job),
+    /// Print a table's totals.
+    Totals {
+        /// Its path.
+        table: PathBuf,
     },
 }
 
@@ -48,10 +55,8 @@ pub fn parse(arguments: impl IntoIterator<Item = OsString>) -> Result<Command, F
     let name = given.path("the command")?;
     let command = match name.to_str().unwrap_or_default() {
         "encode" => Command::Encode {
-            width: given.number("--width")?.ok_or_else(|| missing("--width"))?,
-            height: given
-                .number("--height")?
-                .ok_or_else(|| missing("--height"))?,
+            width: given.needed_number("--width")?,
+            height: given.needed_number("--height")?,
             colorspace: match given.flag("--linear") {
                 true => ColorSpace::Linear,
                 false => ColorSpace::Srgb,
@@ -59,11 +64,8 @@ pub fn parse(arguments: impl IntoIterator<Item = OsString>) -> Result<Command, F
             pixels: given.path("PIXELS")?,
             message: given.path("MESSAGE")?,
         },
-        "decode" => Command::Decode(Job {
-            record: given
-                .value("--record")
-                .ok_or_else(|| missing("--record"))?
-                .into(),
+        "decode" => Command::Decode(decode::Job {
+            record: given.file("--record")?,
             every: match given.number("--every")? {
                 Some(0) => return Err(Failure::usage("--every takes a number from 1 on")),
                 Some(every) => every,
@@ -82,6 +84,14 @@ pub fn parse(arguments: impl IntoIterator<Item = OsString>) -> Result<Command, F
         "check" => Command::Check {
             message: given.path("MESSAGE")?,
         },
+        "count" => Command::Count(count::Job {
+            hour: given.needed_number("--hour")?,
+            table: given.file("--table")?,
+            message: given.path("MESSAGE")?,
+        }),
+        "totals" => Command::Totals {
+            table: given.file("--table")?,
+        },
         _ => {
             return Err(Failure::usage(format!(
                 "there is no command {}",
@@ -98,7 +108,15 @@ fn missing(what: &str) -> Failure {
 }
 
 /// Options that take a value, and those that take none.
-const WITH_VALUE: [&str; 5] = ["--width", "--height", "--record", "--every", "--channels"];
+const WITH_VALUE: [&str; 7] = [
+    "--width",
+    "--height",
+    "--record",
+    "--every",
+    "--channels",
+    "--hour",
+    "--table",
+];
 const ALONE: [&str; 4] = ["--linear", "--restart", "--help", "-h"];
 
 /// The arguments, sorted; each is taken out as it is used.
@@ -155,6 +173,16 @@ impl Given {
         Some(self.values.remove(place).1)
     }
 
+    /// The path that an option takes, which must be given.
+    fn file(&mut self, option: &str) -> Result<PathBuf, Failure> {
+        let value = self.value(option).ok_or_else(|| missing(option))?;
+        Ok(value.into())
+    }
+
+    fn needed_number<T: FromStr>(&mut self, option: &str) -> Result<T, Failure> {
+        self.number(option)?.ok_or_else(|| missing(option))
+    }
+
     fn number<T: FromStr>(&mut self, option: &str) -> Result<Option<T>, Failure> {
         let value = match self.value(option) {
             Some(value) => value,
@@ -206,7 +234,7 @@ mod tests {
 
     #[test]
     fn options_stand_anywhere() {
-        let job = Job {
+        let job = decode::Job {
             message: "m".into(),
             output: "o".into(),
             record: "r".into(),
@@ -216,7 +244,7 @@ mod tests {
         };
         let line = "decode --every 10 m --record r --restart o --channels 3";
         assert_eq!(parsed(line), Ok(Command::Decode(job.clone())));
-        let plain = Job {
+        let plain = decode::Job {
             every: EVERY,
             channels: None,
             restart: false,
@@ -237,6 +265,15 @@ mod tests {
             message: "--m".into(),
         };
         assert_eq!(parsed("check -- --m"), Ok(dashes));
+        let job = count::Job {
+            message: "m".into(),
+            hour: u64::MAX,
+            table: "t".into(),
+        };
+        let line = "count --table t m --hour 18446744073709551615";
+        assert_eq!(parsed(line), Ok(Command::Count(job)));
+        let totals = Command::Totals { table: "t".into() };
+        assert_eq!(parsed("totals --table t"), Ok(totals));
         assert_eq!(parsed("--help"), Ok(Command::Help));
         assert_eq!(parsed("decode -h"), Ok(Command::Help));
     }
@@ -273,6 +310,21 @@ mod tests {
         assert_eq!(
             words("encode p m --width 4294967296 --height 1"),
             "--width does not take 4294967296"
+        );
+        assert_eq!(words("count m --table t"), "--hour is missing");
+        assert_eq!(words("count m --hour 1"), "--table is missing");
+        assert_eq!(words("count --hour 1 --table t"), "MESSAGE is missing");
+        for hour in ["x", "-1", "1.5", "18446744073709551616"] {
+            assert_eq!(
+                words(&format!("count m --table t --hour {hour}")),
+                format!("--hour does not take {hour}")
+            );
+        }
+        assert_eq!(words("totals"), "--table is missing");
+        assert_eq!(words("totals m --table t"), "totals does not take m");
+        assert_eq!(
+            words("totals --table t --hour 1"),
+            "totals does not take --hour"
         );
     }
 }

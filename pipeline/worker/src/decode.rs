@@ -3,7 +3,7 @@
 //! Where OUTPUT or the record is written or taken up, a comment names the constructor of `Stored` (crates/demands/specs/Flushing.antt) that it is. The
 //! theorem on those histories is what makes the end right; docs/PROMISES.md says what it takes for granted of a disk, and what holds of two live workers.
 use crate::beside;
-use crate::disk::{folder, Disk};
+use crate::disk::{folder, read_if_there, Disk};
 use crate::failure::Failure;
 use crate::memory::zeros;
 use crate::saved;
@@ -210,9 +210,10 @@ fn saved_record<D: Disk>(
     first: &Record,
 ) -> Result<Option<Record>, Failure> {
     let bad = |words| Failure::bad_record(&job.record, words);
-    let bytes = match disk.read(&job.record) {
-        Err(error) if error.kind() == ErrorKind::NotFound => return Ok(None),
-        read => read.map_err(Failure::disk("read", &job.record))?,
+    let read = read_if_there(disk, &job.record).map_err(Failure::disk("read", &job.record))?;
+    let bytes = match read {
+        Some(bytes) => bytes,
+        None => return Ok(None),
     };
     let (record, sum) = saved::from_bytes(&bytes).ok_or_else(|| bad("the record is damaged"))?;
     if sum != message_sum || record.header() != first.header() {

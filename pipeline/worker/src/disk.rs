@@ -1,8 +1,9 @@
 //! What the worker asks of a disk: the few calls that a decode with its record, and a count with its table, rest on. docs/PROMISES.md says what is
 //! assumed of them.
+use crate::memory::room;
 use std::ffi::OsString;
 use std::fs::{self, File, OpenOptions};
-use std::io::{self, ErrorKind};
+use std::io::{self, ErrorKind, Read};
 use std::os::unix::fs::FileExt;
 use std::os::unix::io::AsRawFd;
 use std::path::Path;
@@ -47,6 +48,14 @@ pub fn folder(path: &Path) -> &Path {
     match path.parent() {
         Some(folder) if folder != Path::new("") => folder,
         _ => Path::new("."),
+    }
+}
+
+/// A file's bytes; none where it is not there.
+pub fn read_if_there<D: Disk>(disk: &D, path: &Path) -> io::Result<Option<Vec<u8>>> {
+    match disk.read(path) {
+        Err(error) if error.kind() == ErrorKind::NotFound => Ok(None),
+        read => read.map(Some),
     }
 }
 
@@ -97,7 +106,11 @@ impl Disk for RealDisk {
     }
 
     fn read(&self, path: &Path) -> io::Result<Vec<u8>> {
-        fs::read(path)
+        let mut file = File::open(path)?;
+        let length = file.metadata()?.len() as usize;
+        let mut bytes = room(length).ok_or(ErrorKind::OutOfMemory)?;
+        file.read_to_end(&mut bytes)?;
+        Ok(bytes)
     }
 
     fn rename(&self, from: &Path, to: &Path) -> io::Result<()> {

@@ -8,6 +8,8 @@ use std::path::Path;
 const BAD_RECORD: u8 = 9;
 /// The operating system's usual status for arguments that are wrong.
 const USAGE: u8 = 64;
+/// That for a file that holds something else than it should.
+const DATA: u8 = 65;
 /// That for a file that cannot be read or written.
 const DISK: u8 = 74;
 
@@ -43,7 +45,15 @@ impl Failure {
         }
     }
 
-    /// There is no memory for what the file at `path` will hold.
+    /// What the file at `path` holds is no table as a worker left it.
+    pub fn bad_table(path: &Path) -> Self {
+        Self {
+            status: DATA,
+            words: format!("{}: the table is damaged, or this is none", path.display()),
+        }
+    }
+
+    /// There is no memory for what the file at `path` holds or will hold.
     pub fn no_memory(path: &Path, length: usize) -> Self {
         Self {
             status: DISK,
@@ -67,7 +77,7 @@ impl Failure {
         }
     }
 
-    /// The exit status: the number of a refusal, 64 or 74.
+    /// The exit status: the number of a refusal, 64, 65 or 74.
     pub fn status(&self) -> u8 {
         self.status
     }

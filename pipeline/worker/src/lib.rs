@@ -3,9 +3,11 @@
 
 pub mod arguments;
 pub mod beside;
+pub mod count;
 pub mod decode;
 pub mod disk;
 pub mod failure;
 pub mod memory;
 pub mod progress;
 pub mod saved;
+pub mod table;

@@ -2,17 +2,19 @@
 use pivotshade::{strict, ColorSpace, Encoder};
 use std::env;
 use std::fs;
-use std::io::{stderr, stdout, Write};
+use std::io::{self, stderr, stdout, BufWriter, Write};
 use std::os::unix::fs::MetadataExt;
 use std::path::{Path, PathBuf};
 use std::process::ExitCode;
 use worker::arguments::{parse, Command, USAGE};
 use worker::beside;
+use worker::count::{count, lock_path, Outcome};
 use worker::decode::decode;
 use worker::disk::{folder, Disk, RealDisk};
 use worker::failure::Failure;
 use worker::memory::zeros;
 use worker::progress::Bar;
+use worker::table;
 
 fn main() -> ExitCode {
     match parse(env::args_os().skip(1)) {
@@ -73,6 +75,21 @@ fn carry_out(command: Command) -> Result<(), Failure> {
                 checked.bytes
             ))?;
         }
+        Command::Count(job) => {
+            let lock = lock_path(&job.table);
+            are_different(&[&job.message, &job.table, &lock])?;
+            is_ordinary(&job.table)?;
+            is_ordinary(&lock)?;
+            let hour = job.hour;
+            match count(&RealDisk, &job)? {
+                Outcome::Counted { cells } => say(&format!("hour {hour} counted: {cells} cells"))?,
+                Outcome::Already => say(&format!("hour {hour} was counted already"))?,
+            }
+        }
+        Command::Totals { table } => {
+            let table = table::from_bytes(&read(&table)?, &table)?;
+            print_lines(table.totals()).map_err(not_printed())?;
+        }
     }
     Ok(())
 }
@@ -96,7 +113,20 @@ fn encode(
 
 /// Prints a line.
 fn say(line: &str) -> Result<(), Failure> {
-    writeln!(stdout(), "{line}").map_err(Failure::disk("write", Path::new("standard output")))
+    writeln!(stdout(), "{line}").map_err(not_printed())
+}
+
+/// Prints numbers, one a line.
+fn print_lines(numbers: &[u64]) -> io::Result<()> {
+    let mut lines = BufWriter::new(stdout().lock());
+    for number in numbers {
+        writeln!(lines, "{number}")?;
+    }
+    lines.flush()
+}
+
+fn not_printed() -> impl FnOnce(io::Error) -> Failure {
+    Failure::disk("write", Path::new("standard output"))
 }
 
 fn read(path: &Path) -> Result<Vec<u8>, Failure> {

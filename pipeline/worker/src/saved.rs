@@ -3,24 +3,31 @@
 use pivotshade::Record;
 
 /// Bytes of a sum.
-const SUM: usize = 8;
+pub const SUM: usize = 8;
 
 /// The file's bytes, for a record and the sum of its message.
 pub fn to_bytes(record: &Record, message_sum: u64) -> Vec<u8> {
     let mut bytes = record.as_bytes().to_vec();
     bytes.extend(message_sum.to_le_bytes());
-    bytes.extend(sum(&bytes).to_le_bytes());
+    add_sum(&mut bytes);
     bytes
 }
 
 /// The record and the sum of its message; none where a byte of the file is not what was written.
 pub fn from_bytes(bytes: &[u8]) -> Option<(Record, u64)> {
-    let (summed, all_sum) = split_sum(bytes)?;
-    let (record, message_sum) = split_sum(summed)?;
-    if sum(summed) != all_sum {
-        return None;
-    }
+    let (record, message_sum) = split_sum(before_sum(bytes)?)?;
     Some((Record::from_bytes(record).ok()?, message_sum))
+}
+
+/// Adds a sum at the end, over all that stands before it.
+pub fn add_sum(bytes: &mut Vec<u8>) {
+    bytes.extend(sum(bytes).to_le_bytes());
+}
+
+/// What stands before such a sum; none where a byte is not what it was when the sum was added.
+pub fn before_sum(bytes: &[u8]) -> Option<&[u8]> {
+    let (before, of_them) = split_sum(bytes)?;
+    (sum(before) == of_them).then_some(before)
 }
 
 /// What stands before a sum at the end, and that sum.
@@ -58,9 +65,24 @@ fn mixed(so_far: u64, word: u64) -> u64 {
 }
 
 #[cfg(test)]
-mod tests {
+pub(crate) mod tests {
     use super::*;
     use pivotshade::{encode_to_vec, start, Channels};
+
+    /// These bytes with each bit changed, cut off at each length, and a byte longer; in words, too.
+    pub fn damaged(good: &[u8]) -> impl Iterator<Item = (String, Vec<u8>)> + '_ {
+        let changed = (0..8 * good.len()).map(move |bit| {
+            let mut bad = good.to_vec();
+            bad[bit / 8] ^= 1 << (bit % 8);
+            (format!("bit {bit}"), bad)
+        });
+        let cut =
+            (0..good.len()).map(move |length| (format!("{length} bytes"), good[..length].to_vec()));
+        let longer = [good, &[0]].concat();
+        changed
+            .chain(cut)
+            .chain([("a byte more".to_owned(), longer)])
+    }
 
     #[test]
     fn one_changed_bit_is_seen() {
@@ -68,16 +90,9 @@ mod tests {
         let record = start(&message, Channels::Rgba).unwrap();
         let good = to_bytes(&record, sum(&message));
         assert_eq!(from_bytes(&good), Some((record, sum(&message))));
-        for bit in 0..8 * good.len() {
-            let mut bad = good.clone();
-            bad[bit / 8] ^= 1 << (bit % 8);
-            assert_eq!(from_bytes(&bad), None, "bit {bit}");
+        for (what, bad) in damaged(&good) {
+            assert_eq!(from_bytes(&bad), None, "{what}");
         }
-        for length in 0..good.len() {
-            assert_eq!(from_bytes(&good[..length]), None, "{length} bytes");
-        }
-        let longer = [&good[..], &[0]].concat();
-        assert_eq!(from_bytes(&longer), None);
     }
 
     #[test]
