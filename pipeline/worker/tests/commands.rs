@@ -1,79 +1,11 @@
-// The program as a user calls it: statuses, words, and what stands in the files after each answer.
+// The program as a user calls it, to encode, check and decode: statuses, words, and what stands in the files after each answer.
+mod common;
+
+use common::Folder;
 use pivotshade::{encode_to_vec, Channels, Decoder};
-use std::env;
 use std::fs;
 use std::os::unix::fs::symlink;
-use std::path::PathBuf;
-use std::process::{self, Command};
 use worker::saved;
-
-/// A folder of the test's own, removed at its end.
-struct Folder(PathBuf);
-
-impl Folder {
-    fn new(test: &str) -> Self {
-        let path = env::temp_dir().join(format!("worker-{}-{test}", process::id()));
-        fs::create_dir(&path).unwrap();
-        Self(path)
-    }
-
-    fn path(&self, name: &str) -> PathBuf {
-        self.0.join(name)
-    }
-
-    fn write(&self, name: &str, bytes: &[u8]) {
-        fs::write(self.path(name), bytes).unwrap();
-    }
-
-    fn read(&self, name: &str) -> Vec<u8> {
-        fs::read(self.path(name)).unwrap()
-    }
-
-    fn names(&self) -> Vec<String> {
-        let entries = fs::read_dir(&self.0).unwrap();
-        let mut names: Vec<String> = entries
-            .map(|entry| entry.unwrap().file_name().into_string().unwrap())
-            .collect();
-        names.sort();
-        names
-    }
-
-    /// Runs the worker in the folder: its status, what it printed, and its words.
-    fn worker(&self, line: &str) -> (i32, String, String) {
-        let ran = Command::new(env!("CARGO_BIN_EXE_worker"))
-            .args(line.split_whitespace())
-            .current_dir(&self.0)
-            .output()
-            .unwrap();
-        let text = |bytes| String::from_utf8(bytes).unwrap();
-        (
-            ran.status.code().unwrap(),
-            text(ran.stdout),
-            text(ran.stderr),
-        )
-    }
-
-    /// Runs the worker, which must succeed and say nothing.
-    fn works(&self, line: &str) {
-        assert_eq!(
-            self.worker(line),
-            (0, String::new(), String::new()),
-            "{line}"
-        );
-    }
-
-    /// Runs the worker, which must end with a status and its words.
-    fn refuses(&self, line: &str, status: i32, words: &str) {
-        let words = format!("worker: {words}\n");
-        assert_eq!(self.worker(line), (status, String::new(), words), "{line}");
-    }
-}
-
-impl Drop for Folder {
-    fn drop(&mut self) {
-        let _ = fs::remove_dir_all(&self.0);
-    }
-}
 
 const WIDTH: u32 = 40;
 const HEIGHT: u32 = 30;
@@ -109,10 +41,9 @@ fn encodes_checks_and_decodes() {
     folder.write("px", &picture());
     folder.works("encode px m.qoi --width 40 --height 30");
     assert_eq!(folder.read("m.qoi"), message());
-    let (status, line, words) = folder.worker("check m.qoi");
     let chunks = pivotshade::strict(message()).unwrap().chunks;
     let expected = format!("ok 40 30 4 0 {chunks} {}\n", message().len());
-    assert_eq!((status, line, words), (0, expected, String::new()));
+    folder.prints("check m.qoi", &expected);
     folder.works(DECODE);
     assert_eq!(folder.read("out"), picture());
     assert_eq!(folder.names(), ["m.qoi", "out", "px", "rec"]);
