@@ -26,7 +26,7 @@
 //! Messages are read, written, checked and counted, records are read and run, and refusals are put into words by functions that are written in Rattle
 //! and proved to meet their contracts. They stand in the archive `libqoi.a`. This crate lends them slices and gives their answers names. Its own are a
 //! few sums ([`encode_max_len`], [`Header::n_pixels`], [`Header::n_bytes`]), the test of [`Header::try_new`], the numbers of [`Channels`] and
-//! [`ColorSpace`], and [`Record`]'s look at its own numbers; its tests hold them to the proved functions.
+//! [`ColorSpace`], and the looks of [`Record`] at its numbers and of [`Table`] at its marks; its tests hold them to the proved functions.
 //!
 //! # What is added
 //!
