@@ -5,7 +5,7 @@ use crate::random::Random;
 use crate::words;
 
 /// The numbers of refusals.
-const REFUSALS: u64 = 11;
+const REFUSALS: [u64; 14] = [1, 2, 3, 4, 5, 6, 7, 8, 9, 10, 11, 19, 20, 21];
 
 /// The ends of the Rust's types for figures, and what they do not hold; the low half of the last but one is 9.
 const ENDS: [u64; 10] = [
@@ -43,11 +43,11 @@ fn room(number: &mut u64, words: &str) -> usize {
     }
 }
 
-pub const EDGES: u64 = ROOMS * REFUSALS * FIGURES * FIGURES * FIGURES;
+pub const EDGES: u64 = ROOMS * REFUSALS.len() as u64 * FIGURES * FIGURES * FIGURES;
 
 /// Each refusal with figures at range ends, and a fourth, which none has. Those that the refusal does not have must not matter.
 pub fn edges(check: &mut Check, mut number: u64) {
-    let refusal = 1 + digit(&mut number, REFUSALS);
+    let refusal = one_of(&mut number, &REFUSALS);
     let [a, b, c] = [(); 3].map(|()| figure(&mut number));
     let told = [a, b, c, !a];
     let words = words::of(refusal, &told);
@@ -95,17 +95,19 @@ fn tell(check: &mut Check, random: &mut Random, number: u64) {
 }
 
 pub fn any_figures(check: &mut Check, random: &mut Random) {
-    let number = random.between(1, REFUSALS as usize) as u64;
+    let number = *random.pick(&REFUSALS);
     tell(check, random, number);
 }
 
-/// 0, numbers above the last, and large ones of which a part is a refusal's.
+/// 0, numbers between refusals' and above the last, and large ones of which a part is a refusal's.
 pub fn no_refusals(check: &mut Check, random: &mut Random) {
     let number = match random.below(4) {
-        0 => *random.pick(&[0, 12, 13, 19, 255, 256, 257, u64::MAX]),
-        1 => (1 << random.between(4, 63)) | random.between(1, REFUSALS as usize) as u64,
+        0 => *random.pick(&[0, 12, 18, 22, 255, 256, 257, u64::MAX]),
+        1 => (1 << random.between(4, 63)) | random.pick(&REFUSALS),
         2 => 12 + random.below(300) as u64,
-        _ => 12_u64.max(any_figure(random)),
+        _ => any_figure(random),
     };
-    tell(check, random, number);
+    if !REFUSALS.contains(&number) {
+        tell(check, random, number);
+    }
 }
