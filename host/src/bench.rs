@@ -1,13 +1,13 @@
 // The command `bench`: decode timed against the Rust's, runs of some thousand steps against decode, encode against the Rust's and qoi.h's, and the
-// strict check against decode, in one process, by turns, the least of many times.
+// strict check and the count of a frame against decode, in one process, by turns, the least of many times.
 //
 // All read the same input and write the same output: one buffer of exactly the length needed, lent to each in turn, so that length, alignment
 // and what the caches hold are the same for each; but qoi.h writes to memory of its own, and the strict check writes nothing. Each decode reads
 // the header, tests the output's length and decodes; each encode tests pixels and output, writes the header and encodes.
 use crate::answer::Answer;
-use crate::images;
+use crate::images::{self, Image};
 use crate::pictures::{self, Picture};
-use crate::port::MORE;
+use crate::port::{HOURS, MORE};
 #[cfg(feature = "qoi_h")]
 use crate::qoi_h;
 use crate::{oracle, port};
@@ -43,24 +43,25 @@ struct Sample {
     name: String,
     picture: Picture,
     message: Vec<u8>,
+    is_photograph: bool,
 }
 
-/// The least time of each caller, in nanoseconds. Each goes first as often as the others.
-fn race(
-    callers: usize,
-    call: impl Fn(usize, &mut [u8]) -> Answer,
-    out: &mut [u8],
-    turns: usize,
-) -> Vec<f64> {
+/// How long a call takes, in nanoseconds.
+fn time(call: impl FnOnce() -> Answer) -> f64 {
+    let start = Instant::now();
+    let answer = call();
+    let elapsed = start.elapsed();
+    assert!(answer.is_accepted(), "{answer}");
+    elapsed.as_nanos() as f64
+}
+
+/// The least time of each caller. Each goes first as often as the others.
+fn race(callers: usize, turns: usize, mut time_of: impl FnMut(usize) -> f64) -> Vec<f64> {
     let mut least = vec![f64::MAX; callers];
     for turn in 0..turns.max(TURNS) {
         for place in 0..callers {
             let which = (turn + place) % callers;
-            let start = Instant::now();
-            let answer = call(which, out);
-            let elapsed = start.elapsed();
-            assert!(answer.is_accepted(), "{answer}");
-            least[which] = least[which].min(elapsed.as_nanos() as f64);
+            least[which] = least[which].min(time_of(which));
         }
     }
     least
@@ -95,7 +96,9 @@ fn samples(folder: &Path) -> Vec<Sample> {
         .map(|(name, picture)| {
             let image = images.iter().find(|image| image.name == name);
             let message = image.map_or_else(|| picture.encoded(0), |image| image.message.clone());
+            let is_of = |image: &Image| name.starts_with(&image.name);
             Sample {
+                is_photograph: images.iter().any(|i| i.is_photograph() && is_of(i)),
                 name,
                 picture,
                 message,
@@ -138,8 +141,9 @@ fn race_decodes(one: Decode, other: Decode, sample: &Sample, wanted: u64) -> Vec
     assert!(one(message, wanted, &mut out).is_accepted());
     assert!(other(message, wanted, &mut others).is_accepted());
     assert!(out == others, "the pixels differ: run ./compare");
-    let call = |which: usize, out: &mut [u8]| [one, other][which](message, wanted, out);
-    race(2, call, &mut out, DECODED / pixels)
+    race(2, DECODED / pixels, |which| {
+        time(|| [one, other][which](message, wanted, &mut out))
+    })
 }
 
 /// A table of decodes: a line for each message and wanted, then the means and the largest.
@@ -186,8 +190,9 @@ fn race_encoders(picture: &Picture) -> Vec<f64> {
         let others = encode(picture, &mut out);
         assert!(others == answer, "{name} writes another length");
     }
-    let call = |which: usize, out: &mut [u8]| ENCODERS[which].1(picture, out);
-    race(ENCODERS.len(), call, &mut out, ENCODED / pixels(picture))
+    race(ENCODERS.len(), ENCODED / pixels(picture), |which| {
+        time(|| ENCODERS[which].1(picture, &mut out))
+    })
 }
 
 /// The table of encodes: a line for each picture, then the means and the largest against each of the others.
@@ -226,21 +231,52 @@ fn encode_table(samples: &[Sample]) {
     }
 }
 
-/// The table of strict checks: a line for each message, beside its decode to its own channels, then the mean and the largest.
-fn strict_table(samples: &[Sample]) {
+/// The least times of the strict check and of a decode to the header's own channels.
+fn race_strict(sample: &Sample) -> Vec<f64> {
+    let (picture, message) = (&sample.picture, &sample.message[..]);
+    let mut out = vec![0; picture.pixels.len()];
+    race(2, DECODED / pixels(picture), |which| {
+        time(|| match which {
+            0 => port::strict(message),
+            _ => port::decode(message, picture.channels as u64, &mut out),
+        })
+    })
+}
+
+/// The least times of the count of a four-channel frame, for an hour that is not marked, and of its decode.
+fn race_count(sample: &Sample) -> Vec<f64> {
+    let message = &sample.message[..];
+    let cells = pixels(&sample.picture);
+    let mut frame = vec![0; 4 * cells];
+    let (mut totals, mut marks) = (vec![0; cells], [0; HOURS]);
+    assert!(port::count(message, 0, &mut frame, &mut totals, &mut marks).is_accepted());
+    let is_rain = |(cell, total): (&[u8], &u64)| {
+        u64::from(u32::from_be_bytes(cell.try_into().expect("four"))) == *total
+    };
+    let pixels = sample.picture.pixels.chunks_exact(4);
+    let is_same = pixels.zip(&totals).all(is_rain);
+    assert!(is_same, "the totals differ: run ./compare");
+    race(2, DECODED / cells, |which| {
+        // a fresh table before the decode too, so that the caches hold the same
+        totals.fill(0);
+        marks.fill(0);
+        time(|| match which {
+            0 => port::count(message, 0, &mut frame, &mut totals, &mut marks),
+            _ => port::decode(message, 4, &mut frame),
+        })
+    })
+}
+
+/// A table of what is timed against decode: a line for each message, then the mean and the largest.
+fn table_beside_decode(name: &str, samples: &[&Sample], race: fn(&Sample) -> Vec<f64>) -> Ratios {
     println!(
-        "{:24} {:>8} {:>8} {:>10} {:>10} {:>7}",
-        "message", "pixels", "channels", "strict", "decode", "ratio"
+        "{:24} {:>8} {:>8} {name:>10} {:>10} {:>7}",
+        "message", "pixels", "channels", "decode", "ratio"
     );
     let mut ratios = Ratios::default();
     for sample in samples {
-        let (name, picture, message) = (&sample.name, &sample.picture, &sample.message[..]);
-        let mut out = vec![0; picture.pixels.len()];
-        let call = |which: usize, out: &mut [u8]| match which {
-            0 => port::strict(message),
-            _ => port::decode(message, picture.channels as u64, out),
-        };
-        let times = race(2, call, &mut out, DECODED / pixels(picture));
+        let (name, picture) = (&sample.name, &sample.picture);
+        let times = race(sample);
         let ratio = times[0] / times[1];
         println!(
             "{name:24} {:8} {:8} {:10.1} {:10.1} {ratio:7.3}",
@@ -257,11 +293,29 @@ fn strict_table(samples: &[Sample]) {
         ratios.largest.0,
         ratios.largest.1
     );
+    ratios
 }
 
-/// Every table, or only that of encodes or that of strict checks.
+/// The table of counts, of frames of four channels, and the largest ratio of those that are rain or a photograph.
+fn count_table(samples: &[Sample]) {
+    let frames: Vec<&Sample> = samples.iter().filter(|s| s.picture.channels == 4).collect();
+    let ratios = table_beside_decode("count", &frames, race_count);
+    let mut bounded = Ratios::default();
+    for (frame, ratio) in frames.iter().zip(ratios.all) {
+        if frame.is_photograph || frame.name.starts_with(pictures::RAIN) {
+            bounded.push(ratio, &frame.name);
+        }
+    }
+    println!(
+        "rain and photographs: largest ratio {:.3}: {}",
+        bounded.largest.0, bounded.largest.1
+    );
+}
+
+/// Every table, or only that of encodes, of strict checks or of counts.
 pub fn run(folder: &Path, only: Option<&str>) -> ExitCode {
     let samples = samples(folder);
+    let is_wanted = |table: &str| only.map_or(true, |only| only == table);
     println!("The least of many times, in microseconds; a number after a name: the channels it was encoded with here.");
     if only.is_none() {
         println!("decode against the Rust's:");
@@ -274,7 +328,7 @@ pub fn run(folder: &Path, only: Option<&str>) -> ExitCode {
         decode_table(names, decode_in_slices, port::decode, &samples);
         println!();
     }
-    if only != Some("strict") {
+    if is_wanted("encode") {
         println!("encode against the Rust's and qoi.h's:");
         if !cfg!(feature = "qoi_h") {
             println!("no qoi.h at hand, which is Debian's libqoi-dev: it is not timed");
@@ -282,9 +336,15 @@ pub fn run(folder: &Path, only: Option<&str>) -> ExitCode {
         encode_table(&samples);
         println!();
     }
-    if only != Some("encode") {
+    if is_wanted("strict") {
         println!("the strict check against decode to the header's own channels:");
-        strict_table(&samples);
+        let all: Vec<&Sample> = samples.iter().collect();
+        table_beside_decode("strict", &all, race_strict);
+        println!();
+    }
+    if is_wanted("count") {
+        println!("the count of a frame, for an hour that is not marked, against its decode:");
+        count_table(&samples);
     }
     ExitCode::SUCCESS
 }

@@ -25,11 +25,19 @@ impl Image {
         }
     }
 
-    /// The picture with its own channels; one of three channels, which is a photograph, also with four.
+    fn channels(&self) -> u64 {
+        oracle::header(&self.message).figures[2]
+    }
+
+    /// Those of three channels are.
+    pub fn is_photograph(&self) -> bool {
+        self.channels() == 3
+    }
+
+    /// The picture with its own channels; a photograph also with four.
     pub fn pictures(&self) -> Vec<(String, Picture)> {
-        let [_, _, channels, _] = oracle::header(&self.message).figures;
-        let mut pictures = vec![(self.name.clone(), self.picture(channels))];
-        if channels == 3 {
+        let mut pictures = vec![(self.name.clone(), self.picture(self.channels()))];
+        if self.is_photograph() {
             pictures.push((format!("{}, 4", self.name), self.picture(4)));
         }
         pictures

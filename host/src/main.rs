@@ -34,7 +34,7 @@ use std::process::ExitCode;
 
 fn usage() -> ExitCode {
     eprintln!(
-        "usage: host compare CASES SEED IMAGES | host peers FOLDER IMAGES | host bench IMAGES [encode | strict]"
+        "usage: host compare CASES SEED IMAGES | host peers FOLDER IMAGES | host bench IMAGES [encode | strict | count]"
     );
     ExitCode::from(2)
 }
@@ -49,7 +49,7 @@ fn main() -> ExitCode {
         },
         ["peers", folder, images] => peers::run(&PathBuf::from(folder), &PathBuf::from(images)),
         ["bench", folder] => bench::run(&PathBuf::from(folder), None),
-        ["bench", folder, only @ ("encode" | "strict")] => {
+        ["bench", folder, only @ ("encode" | "strict" | "count")] => {
             bench::run(&PathBuf::from(folder), Some(only))
         }
         _ => usage(),

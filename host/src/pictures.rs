@@ -210,12 +210,15 @@ fn noise(channels: usize) -> Picture {
     })
 }
 
+/// What the names of rain fields begin with.
+pub const RAIN: &str = "rain field";
+
 /// The large ones, each with three channels and with four, and their names.
 pub fn large() -> Vec<(String, Picture)> {
     type Make = fn(usize) -> Picture;
     let made: [(&str, Make); 4] = [
         ("page of text", page),
-        ("rain field", rain),
+        (RAIN, rain),
         ("flat", flat),
         ("noise", noise),
     ];

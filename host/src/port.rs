@@ -42,6 +42,17 @@ extern "C" {
         next_length: usize,
         figures: *mut [u64; 4],
     ) -> u64;
+    fn pivotshade_count(
+        message: *const u8,
+        length: usize,
+        hour: u64,
+        frame: *mut u8,
+        frame_length: usize,
+        totals: *mut u64,
+        cells: usize,
+        marks: *mut [u8; HOURS],
+        figures: *mut [u64; 4],
+    ) -> u64;
     fn pivotshade_text(
         number: u64,
         told: *const [u64; 4],
@@ -53,6 +64,9 @@ extern "C" {
 
 /// What a run answers that has more to do.
 pub const MORE: u64 = 256;
+
+/// The hours of a month, each of which has a mark.
+pub const HOURS: usize = 744;
 
 /// What the figures hold before a call: each of the four must be written, the zeros too.
 const UNWRITTEN: [u64; 4] = [0x5555_5555_5555_5555; 4];
@@ -141,6 +155,32 @@ pub fn run(message: &[u8], record: &[u8], out: &mut [u8], steps: u64, next: &mut
             steps,
             next.as_mut_ptr(),
             next.len(),
+            &mut figures,
+        )
+    };
+    Answer { number, figures }
+}
+
+/// Message bytes used, of a frame that was added to the totals; 257 where its hour is marked.
+pub fn count(
+    message: &[u8],
+    hour: u64,
+    frame: &mut [u8],
+    totals: &mut [u64],
+    marks: &mut [u8; HOURS],
+) -> Answer {
+    let mut figures = UNWRITTEN;
+    // the port reads message[..] alone and writes frame[..], totals[..], the marks and the four figures alone
+    let number = unsafe {
+        pivotshade_count(
+            message.as_ptr(),
+            message.len(),
+            hour,
+            frame.as_mut_ptr(),
+            frame.len(),
+            totals.as_mut_ptr(),
+            totals.len(),
+            marks,
             &mut figures,
         )
     };
