@@ -192,7 +192,7 @@ pub const KINDS: [(&str, Cases); 63] = [
 const MOST: u64 = 65_536;
 
 /// The room that the message asks for; little where that is too much, or the header bad.
-fn room(message: &[u8], wanted: u64) -> usize {
+pub fn room(message: &[u8], wanted: u64) -> usize {
     match oracle::needed(message, wanted) {
         Some(needed) if needed <= MOST => needed as usize,
         _ => 16,

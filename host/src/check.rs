@@ -1,7 +1,8 @@
 // One case: the port and the Rust are called on the same input, over memory that holds the same bytes before, and any difference is kept.
 use crate::answer::Answer;
-use crate::port::MORE;
+use crate::port::{COUNTED_ALREADY, MORE};
 use crate::random::Random;
+use crate::table::Fault;
 use crate::{oracle, port, strict, words};
 use std::fmt::Write;
 
@@ -17,29 +18,36 @@ const PATTERNS: usize = 1021;
 const KEPT: usize = 5;
 const SHOWN: usize = 2000;
 
+/// What a count can answer.
+const COUNTS: [u64; 12] = [0, COUNTED_ALREADY, 1, 2, 3, 4, 5, 7, 8, 19, 20, 21];
+
 /// How many cases the Rust answered with each number (of records and the strict check: the rules), how many of them were encodes, strict checks and
-/// refusals in words, and how often the port did otherwise.
+/// refusals in words; the months, and how the ledger answered their calls, in the order of `COUNTS`; and how often the port did otherwise.
 #[derive(Clone, Copy, Default)]
 pub struct Tally {
     pub answers: [u64; 12],
     pub encodes: u64,
     pub stricts: u64,
     pub texts: u64,
+    pub months: u64,
+    pub counts: [u64; COUNTS.len()],
     pub differences: u64,
 }
 
 impl Tally {
     pub fn cases(&self) -> u64 {
-        self.answers.iter().sum()
+        self.answers.iter().sum::<u64>() + self.months
     }
 
     pub fn add(&mut self, other: &Tally) {
-        for (sum, more) in self.answers.iter_mut().zip(other.answers) {
+        let sums = self.answers.iter_mut().chain(&mut self.counts);
+        for (sum, more) in sums.zip(other.answers.iter().chain(&other.counts)) {
             *sum += more;
         }
         self.encodes += other.encodes;
         self.stricts += other.stricts;
         self.texts += other.texts;
+        self.months += other.months;
         self.differences += other.differences;
     }
 }
@@ -135,6 +143,18 @@ impl Check {
         if let Err(text) = result {
             let call = format!("text of {number} {told:?}, output of {room} bytes");
             self.differs_on(&call, &text, "words", words.as_bytes());
+        }
+    }
+
+    /// A case of a month: what its calls were answered, and what was found otherwise.
+    pub fn month(&mut self, answers: &[Answer], result: Result<(), Fault>) {
+        self.tally.months += 1;
+        for answer in answers {
+            let place = COUNTS.iter().position(|n| *n == answer.number);
+            self.tally.counts[place.expect("an answer of count")] += 1;
+        }
+        if let Err(fault) = result {
+            self.differs(&fault.call, &fault.text, &fault.message);
         }
     }
 
@@ -309,7 +329,9 @@ impl Check {
 
     fn differs_on(&mut self, call: &str, text: &str, name: &str, input: &[u8]) {
         self.tally.differences += 1;
-        if self.found.len() == KEPT && self.found[KEPT - 1].length <= input.len() {
+        // a month's call tells its table too
+        let length = call.len() + input.len();
+        if self.found.len() == KEPT && self.found[KEPT - 1].length <= length {
             return;
         }
         let mut shown = format!(
@@ -321,7 +343,7 @@ impl Check {
             write!(shown, " {byte:02x}").expect("a string has room");
         }
         self.found.push(Difference {
-            length: input.len(),
+            length,
             text: shown,
         });
         self.found.sort_by_key(|d| d.length);

@@ -7,7 +7,7 @@ use crate::images::{self, Image};
 use crate::pictures::Picture;
 use crate::random::Random;
 use crate::sha256::sha256;
-use crate::{messages, oracle, port, stricts};
+use crate::{messages, months, oracle, port, stricts};
 use std::path::Path;
 use std::process::ExitCode;
 
@@ -90,9 +90,7 @@ fn damaged_image(random: &mut Random, images: &[Image]) -> Vec<u8> {
     if random.one_in(2) {
         message.truncate(random.below(message.len()));
     } else {
-        for _ in 0..random.between(1, 4) {
-            messages::damage(random, &mut message, 14);
-        }
+        messages::damage_some(random, &mut message, 14);
     }
     message
 }
@@ -168,6 +166,62 @@ fn print(kind: &str, tally: &Tally, note: &str) {
     );
 }
 
+/// Months beside the host's ledger, in a table of their own: what was sent is refused or counted call by call.
+fn run_months(
+    check: &mut Check,
+    random: impl Fn(&str) -> Random,
+    images: &[Image],
+    cases: u64,
+) -> Tally {
+    println!("months: calls of count on one table, one after another; the columns after the calls: how the host's ledger answers them");
+    println!(
+        "{:36} {:>10} {:>10} {:>9} {:>9} {:>9} {:>9} {:>9} {:>9} {:>9} {:>9} {:>9} {:>9} {:>11}",
+        "kind",
+        "months",
+        "calls",
+        "counted",
+        "already",
+        "refused 1",
+        "2",
+        "3 to 5",
+        "7",
+        "8",
+        "19",
+        "20",
+        "21",
+        "differences"
+    );
+    let mut total = Tally::default();
+    for (kind, which) in &months::KINDS {
+        let kind = format!("months: {kind}");
+        check.begin(&kind);
+        let note = run_kind(check, &mut random(&kind), which, cases);
+        print_months(&kind, &check.tally(), &note);
+        total.add(&check.tally());
+    }
+    if !images.is_empty() {
+        let kind = "months: published images";
+        check.begin(kind);
+        months::of_images(check, &mut random(kind), images);
+        print_months(kind, &check.tally(), "every one");
+        total.add(&check.tally());
+    }
+    print_months("all", &total, "");
+    total
+}
+
+fn print_months(kind: &str, tally: &Tally, note: &str) {
+    let (months, differences) = (tally.months, tally.differences);
+    let calls: u64 = tally.counts.iter().sum();
+    let [counted, already, cut, channels, header @ .., short, no_marker, hour, cells, large] =
+        tally.counts;
+    let header: u64 = header.iter().sum();
+    println!(
+        "{kind:36} {months:10} {calls:10} {counted:9} {already:9} {cut:9} {channels:9} {header:9} {short:9} {no_marker:9} {hour:9} {cells:9} {large:9} \
+         {differences:11}  {note}"
+    );
+}
+
 pub fn run(cases: u64, seed: u64, folder: &Path) -> ExitCode {
     println!("seed {seed}; the columns after the cases: how the Rust answered them, or how the rules answer what it lacks");
     println!(
@@ -239,12 +293,13 @@ pub fn run(cases: u64, seed: u64, folder: &Path) -> ExitCode {
         }
     }
     print("all", &total, "");
+    total.add(&run_months(&mut check, random, &images, cases));
     for difference in check.found() {
         println!("{}", difference.text);
     }
     println!(
-        "of these {} encode cases, {} strict cases, {} text cases",
-        total.encodes, total.stricts, total.texts
+        "of these {} encode cases, {} strict cases, {} text cases, {} month cases",
+        total.encodes, total.stricts, total.texts, total.months
     );
     println!("{} cases, {} differences", total.cases(), total.differences);
     ExitCode::from(u8::from(total.differences > 0))

@@ -2,7 +2,7 @@
 use crate::cases::{digit, sequence};
 use crate::check::MARKER;
 use crate::messages::{
-    self, accepted_message, any_header, damage, good_message, header, random_message,
+    self, accepted_message, any_header, damage_some, good_message, header, random_message,
 };
 use crate::random::Random;
 
@@ -125,9 +125,7 @@ pub fn damaged(random: &mut Random) -> Vec<Vec<u8>> {
     let one = |_| {
         let mut message = good.clone();
         let start = if random.one_in(8) { 0 } else { 14 };
-        for _ in 0..random.between(1, 4) {
-            damage(random, &mut message, start);
-        }
+        damage_some(random, &mut message, start);
         message
     };
     (0..8).map(one).collect()

@@ -155,6 +155,11 @@ pub fn accepted_message(random: &mut Random, most: usize) -> Vec<u8> {
     }
     let channels = 3 + random.below(2) as u8;
     let pixels = random.between(1, most);
+    chunked_message(random, pixels, channels)
+}
+
+/// An accepted message of random chunks, so many pixels in one row.
+pub fn chunked_message(random: &mut Random, pixels: usize, channels: u8) -> Vec<u8> {
     let mut message = header(pixels as u32, 1, channels, 0);
     message.extend(chunks_for(random, pixels, channels).bytes);
     message.extend(MARKER);
@@ -185,6 +190,19 @@ pub fn damage(random: &mut Random, message: &mut Vec<u8>, start: usize) {
             message.swap(place, other);
         }
     }
+}
+
+/// Damaged in one to four places.
+pub fn damage_some(random: &mut Random, message: &mut Vec<u8>, start: usize) {
+    for _ in 0..random.between(1, 4) {
+        damage(random, message, start);
+    }
+}
+
+/// Flips a bit of the marker that the message ends with.
+pub fn damage_marker(random: &mut Random, message: &mut [u8]) {
+    let place = message.len() - random.between(1, 8);
+    message[place] ^= 1 << random.below(8);
 }
 
 /// Ends in a run that is longer than the pixels left.
@@ -234,13 +252,18 @@ pub fn stuck(random: &mut Random) -> Vec<u8> {
 /// An accepted message, and bytes after its marker.
 pub fn bytes_after(random: &mut Random) -> Vec<u8> {
     let mut message = accepted_message(random, 60);
+    put_after(random, &mut message);
+    message
+}
+
+/// Another marker, another message, one byte some times, or any bytes.
+pub fn put_after(random: &mut Random, message: &mut Vec<u8>) {
     match random.below(4) {
         0 => message.extend(MARKER),
         1 => message.extend(accepted_message(random, 10)),
         2 => message.resize(message.len() + random.between(1, 40), random.byte()),
         _ => (0..random.between(1, 40)).for_each(|_| message.push(random.byte())),
     }
-    message
 }
 
 /// More pixels than sixteen bits count, in few chunks: mostly runs.
@@ -280,8 +303,7 @@ pub fn any_message(random: &mut Random) -> Vec<u8> {
         }
         7 => {
             let mut message = accepted_message(random, 60);
-            let place = message.len() - random.between(1, 8);
-            message[place] ^= 1 << random.below(8);
+            damage_marker(random, &mut message);
             message
         }
         _ => return mostly_damaged(random),
@@ -300,8 +322,6 @@ fn mostly_damaged(random: &mut Random) -> Vec<u8> {
         return message;
     }
     let start = if random.one_in(8) { 0 } else { 14 };
-    for _ in 0..random.between(1, 4) {
-        damage(random, &mut message, start);
-    }
+    damage_some(random, &mut message, start);
     message
 }

@@ -6,7 +6,7 @@ use crate::random::Random;
 use crate::trace::Trace;
 
 /// Bytes before and after what is lent, which no call may touch.
-const MARGIN: usize = 16;
+pub const MARGIN: usize = 16;
 
 /// The room that a run is lent for the next record.
 #[derive(Clone, Copy)]
@@ -205,9 +205,9 @@ impl Output {
         );
         let fault = if ours != expected.answer {
             format!("port {ours}, expected {}", expected.answer)
-        } else if let Some(place) = place_of_difference(&nexts, &nexts_model) {
+        } else if let Some(place) = place_of_difference(&nexts, &nexts_model, MARGIN) {
             format!("{ours}, next is wrong at byte {place}")
-        } else if let Some(place) = place_of_difference(&self.memory, &self.model) {
+        } else if let Some(place) = place_of_difference(&self.memory, &self.model, MARGIN) {
             format!("{ours}, the output is wrong at byte {place}")
         } else {
             return Ok(expected.ran);
@@ -233,7 +233,7 @@ impl Output {
                 is_same(trace.answer, answer)
                     .map_err(|text| format!("uncut, {whose}'s: {text}"))?;
             }
-            if let Some(place) = place_of_difference(&self.memory, &memory) {
+            if let Some(place) = place_of_difference(&self.memory, &memory, MARGIN) {
                 return Err(format!(
                     "at the end byte {place} is not that of the {whose}'s uncut decode"
                 ));
@@ -243,11 +243,11 @@ impl Output {
     }
 }
 
-/// Where, counted from the first byte that is lent.
-fn place_of_difference(one: &[u8], other: &[u8]) -> Option<isize> {
+/// Where, counted from the first that is lent, which stands at `start`.
+pub fn place_of_difference<T: PartialEq>(one: &[T], other: &[T], start: usize) -> Option<isize> {
     if one == other {
         return None;
     }
     let place = one.iter().zip(other).position(|(a, b)| a != b);
-    Some(place.expect("they differ") as isize - MARGIN as isize)
+    Some(place.expect("they differ") as isize - start as isize)
 }

@@ -65,6 +65,9 @@ extern "C" {
 /// What a run answers that has more to do.
 pub const MORE: u64 = 256;
 
+/// What a count answers whose hour is marked.
+pub const COUNTED_ALREADY: u64 = 257;
+
 /// The hours of a month, each of which has a mark.
 pub const HOURS: usize = 744;
 
@@ -161,7 +164,7 @@ pub fn run(message: &[u8], record: &[u8], out: &mut [u8], steps: u64, next: &mut
     Answer { number, figures }
 }
 
-/// Message bytes used, of a frame that was added to the totals; 257 where its hour is marked.
+/// Message bytes used, of a frame that was added to the totals; `COUNTED_ALREADY` where its hour is marked.
 pub fn count(
     message: &[u8],
     hour: u64,
