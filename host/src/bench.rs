@@ -2,8 +2,8 @@
 // strict check and the count of a frame against decode, in one process, by turns, the least of many times.
 //
 // All read the same input and write the same output: one buffer of exactly the length needed, lent to each in turn, so that length, alignment
-// and what the caches hold are the same for each; but qoi.h writes to memory of its own, and the strict check writes nothing. Each decode reads
-// the header, tests the output's length and decodes; each encode tests pixels and output, writes the header and encodes.
+// and what the caches hold are the same for each; but qoi.h writes to memory of its own, the strict check writes nothing, and the count writes its
+// table too. Each decode reads the header, tests the output's length and decodes; each encode tests pixels and output, writes the header and encodes.
 use crate::answer::Answer;
 use crate::images::{self, Image};
 use crate::pictures::{self, Picture};
