@@ -1,14 +1,23 @@
 //! story WORKER FOLDER [FILE.qoi ...]: the story that `./run` tells. What is sent is encoded; the worker that decodes it is killed on the way; another
-//! takes over; what it leaves is compared, byte for byte, and drawn. WORKER is the worker's program, and FOLDER is where all files go.
+//! takes over; what it leaves is compared, byte for byte, and drawn. With no files, a month of rain follows, which workers add up: their totals are
+//! compared with what each hour once gives, and drawn. WORKER is the worker's program, and FOLDER is where all files go.
 //!
-//! Exit status: 0 every byte was right; 1 not, or a file was refused; 64 wrong arguments.
+//! Exit status: 0 every byte and every total was right; 1 not, or a file was refused; 64 wrong arguments.
 #![forbid(unsafe_code)]
 
 mod deflate;
+mod disk;
 mod font;
+mod ledger;
+mod month;
 mod picture;
 mod png;
+mod queue;
 mod rain;
+// the test host's own, of which not all is needed here
+#[allow(dead_code)]
+#[path = "../../../host/src/random.rs"]
+mod random;
 mod sent;
 mod telling;
 mod words;
@@ -16,19 +25,24 @@ mod workers;
 
 use sent::Sent;
 use std::env;
-use std::path::{Path, PathBuf};
+use std::path::PathBuf;
 use std::process::ExitCode;
 
 fn main() -> ExitCode {
     let arguments: Vec<PathBuf> = env::args_os().skip(1).map(PathBuf::from).collect();
     let all_right = match arguments.as_slice() {
-        [worker, folder] => was_told(Ok(Sent::rain()), worker, folder),
+        [worker, folder] => {
+            let is_right = ended_well(telling::tell(&Sent::rain(), worker, folder));
+            // the month is another story, and is told in any case
+            ended_well(month::tell(worker, folder)) && is_right
+        }
         [worker, folder, files @ ..] => {
             let mut all_right = true;
             for (place, file) in files.iter().enumerate() {
                 // files of one name in two folders must not write over each other
                 let folder = folder.join((place + 1).to_string());
-                all_right &= was_told(Sent::read(file), worker, &folder);
+                let told = Sent::read(file).and_then(|sent| telling::tell(&sent, worker, &folder));
+                all_right &= ended_well(told);
             }
             all_right
         }
@@ -43,9 +57,8 @@ fn main() -> ExitCode {
     }
 }
 
-/// Tells the story of what is sent; whether it ended well. Where it did not, the words are on standard error.
-fn was_told(sent: Result<Sent, String>, worker: &Path, folder: &Path) -> bool {
-    let told = sent.and_then(|sent| telling::tell(&sent, worker, folder));
+/// Whether a story ended well. Where it did not, its words go to standard error.
+fn ended_well(told: Result<(), String>) -> bool {
     if let Err(words) = &told {
         eprintln!("run: {words}");
     }

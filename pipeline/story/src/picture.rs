@@ -1,7 +1,6 @@
-//! The picture of the story: what was sent, what stood there when worker 1 was killed, and what worker 2 left, side by side.
+//! A picture of panels side by side, each of them a map of rain or a picture.
 use crate::font;
 use crate::png::png;
-use crate::sent::Sent;
 use std::ops::Range;
 
 type Colour = [u8; 3];
@@ -23,25 +22,55 @@ const LINE: usize = 2;
 const HATCH: usize = 5;
 const SQUARE: usize = 8;
 
-/// Rain from so many hundredths of a millimetre on, and its colour.
-const RAIN: [(u64, Colour); 11] = [
-    (0, [244, 245, 243]),
-    (4, [218, 233, 246]),
-    (20, [186, 215, 238]),
-    (50, [143, 190, 225]),
-    (100, [98, 160, 208]),
-    (200, [60, 128, 189]),
-    (400, [42, 96, 166]),
-    (700, [46, 66, 142]),
-    (1_000, [74, 46, 134]),
-    (1_500, [110, 36, 146]),
-    (2_500, [158, 28, 142]),
+/// The colours of rain, from the least on.
+const RAIN: [Colour; 11] = [
+    [244, 245, 243],
+    [218, 233, 246],
+    [186, 215, 238],
+    [143, 190, 225],
+    [98, 160, 208],
+    [60, 128, 189],
+    [42, 96, 166],
+    [46, 66, 142],
+    [74, 46, 134],
+    [110, 36, 146],
+    [158, 28, 142],
 ];
 
-/// One of the three.
+/// From how many hundredths of a millimetre on rain has each of the colours.
+pub type Classes = [u64; RAIN.len()];
+
+/// Those of an hour, and those of a month.
+pub const OF_AN_HOUR: Classes = [0, 4, 20, 50, 100, 200, 400, 700, 1_000, 1_500, 2_500];
+pub const OF_A_MONTH: Classes = [
+    0, 5_000, 10_000, 15_000, 20_000, 25_000, 30_000, 35_000, 40_000, 45_000, 50_000,
+];
+
+/// What all panels of a picture have in common.
+pub struct Grid {
+    /// Pixels in a row.
+    pub width: usize,
+    /// Rows.
+    pub height: usize,
+    /// Bytes of a pixel.
+    pub channels: usize,
+    /// The classes of its rain, where a pixel is rain and no colour.
+    pub classes: Option<&'static Classes>,
+}
+
+impl Grid {
+    /// How many pixels it has.
+    pub fn size(&self) -> usize {
+        self.width * self.height
+    }
+}
+
+/// One of the panels.
 pub struct Panel<'a> {
     /// What stands over it.
     pub caption: &'a str,
+    /// What stands under it, if anything does.
+    pub note: String,
     /// The bytes that it shows.
     pub bytes: &'a [u8],
     /// How many pixels, from the first on, were written.
@@ -50,18 +79,36 @@ pub struct Panel<'a> {
     pub recorded: Option<usize>,
 }
 
+impl<'a> Panel<'a> {
+    /// One whose pixels were all written.
+    pub fn whole(grid: &Grid, caption: &'a str, bytes: &'a [u8]) -> Self {
+        Self {
+            caption,
+            note: String::new(),
+            bytes,
+            written: grid.size(),
+            recorded: None,
+        }
+    }
+}
+
 /// The picture as a PNG file.
-pub fn draw(sent: &Sent, panels: &[Panel]) -> Vec<u8> {
-    let (width, height) = fitted(sent.width, sent.height);
-    let captions = panels.iter().map(|panel| DOT * font::width(panel.caption));
-    let column = captions.max().unwrap_or(0).max(width) + MARGIN;
-    let top = 2 * MARGIN + DOT * font::HEIGHT;
-    let mut canvas = Canvas::new(panels.len() * column + MARGIN, top + height + MARGIN);
+pub fn draw(grid: &Grid, panels: &[Panel]) -> Vec<u8> {
+    let (width, height) = fitted(grid.width, grid.height);
+    let texts = panels.iter().flat_map(|panel| [panel.caption, &panel.note]);
+    let widest = texts.map(|text| DOT * font::width(text)).max();
+    let column = widest.unwrap_or(0).max(width) + MARGIN;
+    let line = MARGIN + DOT * font::HEIGHT;
+    let (top, bottom) = (MARGIN + line, MARGIN + line + height);
+    let has_notes = panels.iter().any(|panel| !panel.note.is_empty());
+    let under = MARGIN + usize::from(has_notes) * line;
+    let mut canvas = Canvas::new(panels.len() * column + MARGIN, bottom + under);
     for (place, panel) in panels.iter().enumerate() {
         let left = MARGIN + place * column;
         canvas.write(left, MARGIN, panel.caption);
-        canvas.fill(left - 1..left + width + 1, top - 1..top + height + 1, FRAME);
-        panel.draw(sent, &mut canvas, left..left + width, top..top + height);
+        canvas.write(left, bottom + MARGIN, &panel.note);
+        canvas.fill(left - 1..left + width + 1, top - 1..bottom + 1, FRAME);
+        panel.draw(grid, &mut canvas, left..left + width, top..bottom);
     }
     png(canvas.width, canvas.height, &canvas.rgb, column)
 }
@@ -81,59 +128,59 @@ fn covered(dot: usize, dots: usize, pixels: usize) -> Range<usize> {
 }
 
 impl Panel<'_> {
-    fn draw(&self, sent: &Sent, canvas: &mut Canvas, across: Range<usize>, down: Range<usize>) {
+    fn draw(&self, grid: &Grid, canvas: &mut Canvas, across: Range<usize>, down: Range<usize>) {
         for y in 0..down.len() {
-            let rows = covered(y, down.len(), sent.height);
+            let rows = covered(y, down.len(), grid.height);
             for x in 0..across.len() {
-                let columns = covered(x, across.len(), sent.width);
-                let colour = match self.is_written(sent, &columns, &rows) {
-                    true => self.colour(sent, columns, rows.clone(), [x, y]),
+                let columns = covered(x, across.len(), grid.width);
+                let colour = match self.is_written(grid, &columns, &rows) {
+                    true => self.colour(grid, columns, rows.clone(), [x, y]),
                     false => MISSING[(x + y) / HATCH % 2],
                 };
                 canvas.set(across.start + x, down.start + y, colour);
             }
         }
         if let Some(recorded) = self.recorded {
-            let line = down.start + recorded / sent.width * down.len() / sent.height;
+            let line = down.start + recorded / grid.width * down.len() / grid.height;
             canvas.fill(across, line..down.end.min(line + LINE), RECORD);
         }
     }
 
     /// Whether the last of these pixels was written, and so all of them.
-    fn is_written(&self, sent: &Sent, columns: &Range<usize>, rows: &Range<usize>) -> bool {
-        (rows.end - 1) * sent.width + columns.end - 1 < self.written
+    fn is_written(&self, grid: &Grid, columns: &Range<usize>, rows: &Range<usize>) -> bool {
+        (rows.end - 1) * grid.width + columns.end - 1 < self.written
     }
 
     /// The mean colour of these pixels, at a dot of the panel.
     fn colour(
         &self,
-        sent: &Sent,
+        grid: &Grid,
         columns: Range<usize>,
         rows: Range<usize>,
         dot: [usize; 2],
     ) -> Colour {
         let count = (columns.len() * rows.len()) as u64;
         let pixels = rows.flat_map(|row| {
-            let first = row * sent.width;
+            let first = row * grid.width;
             let bytes =
-                sent.channels * (first + columns.start)..sent.channels * (first + columns.end);
-            self.bytes[bytes].chunks_exact(sent.channels)
+                grid.channels * (first + columns.start)..grid.channels * (first + columns.end);
+            self.bytes[bytes].chunks_exact(grid.channels)
         });
-        match sent.is_rain {
-            true => colour_of_rain(pixels.map(rain).sum::<u64>() / count),
-            false => mean_over_squares(pixels, count, dot),
+        match grid.classes {
+            Some(classes) => colour_of_rain(pixels.map(rain).sum::<u64>() / count, classes),
+            None => mean_over_squares(pixels, count, dot),
         }
     }
 }
 
-/// A cell's rain, in hundredths of a millimetre.
+/// A cell's rain, in hundredths of a millimetre: its bytes as one number, the highest first.
 fn rain(cell: &[u8]) -> u64 {
     cell.iter().fold(0, |sum, &byte| sum << 8 | u64::from(byte))
 }
 
-fn colour_of_rain(rain: u64) -> Colour {
-    let mut reached = RAIN.iter().rev().filter(|(from, _)| *from <= rain);
-    reached.next().expect("the first is from 0 on").1
+fn colour_of_rain(rain: u64, classes: &Classes) -> Colour {
+    let reached = classes.iter().rposition(|&from| from <= rain);
+    RAIN[reached.expect("the first is from 0 on")]
 }
 
 /// The mean of pixels that lie, with their alpha, over squares of two greys.
@@ -225,8 +272,10 @@ mod tests {
 
     #[test]
     fn rain_has_the_colour_of_its_class() {
-        assert_eq!(colour_of_rain(rain(&[0, 0, 0, 3])), RAIN[0].1);
-        assert_eq!(colour_of_rain(rain(&[0, 0, 0, 4])), RAIN[1].1);
-        assert_eq!(colour_of_rain(rain(&[1, 0, 0, 0])), RAIN[10].1);
+        let colour = |cell: &[u8]| colour_of_rain(rain(cell), &OF_AN_HOUR);
+        assert_eq!(colour(&[0, 0, 0, 3]), RAIN[0]);
+        assert_eq!(colour(&[0, 0, 0, 4]), RAIN[1]);
+        assert_eq!(colour(&[1, 0, 0, 0]), RAIN[10]);
+        assert_eq!(colour(&[0, 0, 0, 0, 0, 0, 1, 0]), RAIN[5]);
     }
 }

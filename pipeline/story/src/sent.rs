@@ -1,5 +1,6 @@
 //! What is sent: an hour of rain, or the picture of a file of the user's.
-use crate::rain;
+use crate::picture::{Grid, OF_AN_HOUR};
+use crate::rain::{packed, Map};
 use pivotshade::{decode_to_vec, ColorSpace};
 use std::fs;
 use std::path::Path;
@@ -15,16 +16,10 @@ pub struct Sent {
     pub title: String,
     /// What one of its pixels is called.
     pub unit: &'static str,
-    /// Pixels in a row.
-    pub width: usize,
-    /// Rows.
-    pub height: usize,
-    /// Bytes of a pixel.
-    pub channels: usize,
+    /// How its pixels lie, and what they are.
+    pub grid: Grid,
     /// Whether its colour space is the linear one.
     pub is_linear: bool,
-    /// Whether its pixels are rain, and no colours.
-    pub is_rain: bool,
     /// The pixels.
     pub pixels: Vec<u8>,
 }
@@ -32,15 +27,18 @@ pub struct Sent {
 impl Sent {
     /// An hour of rain.
     pub fn rain() -> Self {
+        let map = Map::storm();
         Self {
             title: "an hour of rain".into(),
             unit: "cells",
-            width: rain::WIDTH,
-            height: rain::HEIGHT,
-            channels: 4,
+            grid: Grid {
+                width: map.width,
+                height: map.height,
+                channels: 4,
+                classes: Some(&OF_AN_HOUR),
+            },
             is_linear: false,
-            is_rain: true,
-            pixels: rain::hour(),
+            pixels: packed(&map.cells()),
         }
     }
 
@@ -58,17 +56,19 @@ impl Sent {
         Ok(Self {
             title: shown.to_string(),
             unit: "pixels",
-            width: header.width as usize,
-            height: header.height as usize,
-            channels: header.channels.as_u8().into(),
+            grid: Grid {
+                width: header.width as usize,
+                height: header.height as usize,
+                channels: header.channels.as_u8().into(),
+                classes: None,
+            },
             is_linear: header.colorspace == ColorSpace::Linear,
-            is_rain: false,
             pixels,
         })
     }
 
     /// How many pixels it has.
     pub fn size(&self) -> usize {
-        self.width * self.height
+        self.grid.size()
     }
 }

@@ -1,11 +1,11 @@
 //! The story, with a line for each fact.
+use crate::disk::{make_folder, open, read, remove, write};
 use crate::picture::{draw, Panel};
 use crate::sent::Sent;
-use crate::words::{grouped, say, shown, time};
+use crate::words::{encoded, grouped, say, shown, time};
 use crate::workers::{Files, Workers};
 use pivotshade::{strict, Record};
-use std::fs::{self, File};
-use std::io::{self, ErrorKind};
+use std::fs::File;
 use std::os::unix::fs::FileExt;
 use std::path::Path;
 use std::time::Duration;
@@ -21,7 +21,7 @@ const TRIES: u32 = 6;
 
 /// Tells the story of what is sent, in a folder; or why it does not end well.
 pub fn tell(sent: &Sent, program: &Path, folder: &Path) -> Result<(), String> {
-    fs::create_dir_all(folder).map_err(cannot("make", folder))?;
+    make_folder(folder)?;
     let files = &Files::of(folder);
     let workers = &Workers { program, files };
     let steps = encode(sent, workers)?;
@@ -29,7 +29,10 @@ pub fn tell(sent: &Sent, program: &Path, folder: &Path) -> Result<(), String> {
     take_over(sent, workers, &cut)?;
     let left = compare(sent, workers)?;
     deliver_again(workers, &cut)?;
-    write(&files.picture, &draw(sent, &panels(sent, &cut, &left)))?;
+    write(
+        &files.picture,
+        &draw(&sent.grid, &panels(sent, &cut, &left)),
+    )?;
     say(format_args!(
         "files: {}: message.qoi, output, output.killed, record",
         shown(folder)
@@ -46,20 +49,19 @@ fn encode(sent: &Sent, workers: &Workers) -> Result<u64, String> {
     say(format_args!(
         "{}: {} x {} {}, {} bytes",
         sent.title,
-        grouped(sent.width),
-        grouped(sent.height),
+        grouped(sent.grid.width),
+        grouped(sent.grid.height),
         sent.unit,
         grouped(sent.pixels.len())
     ));
     write(&workers.files.pixels, &sent.pixels)?;
     let encoder = workers
-        .encode(sent.width, sent.height, sent.is_linear)?
+        .encode(sent.grid.width, sent.grid.height, sent.is_linear)?
         .well("the encoder")?;
     let message = read(&workers.files.message)?;
     say(format_args!(
-        "encoded: {} bytes ({:.2} of the pixels), {}",
-        grouped(message.len()),
-        message.len() as f64 / sent.pixels.len() as f64,
+        "{}, {}",
+        encoded(message.len(), sent.pixels.len()),
         time(encoder.lived)
     ));
     let checked = strict(&message).map_err(|error| format!("the message is refused: {error}"))?;
@@ -111,7 +113,7 @@ fn try_to_cut(sent: &Sent, workers: &Workers, every: u64) -> Result<Cut, String>
     let wrong = sent.pixels.iter().map(|byte| !byte);
     write(path, &wrong.collect::<Vec<_>>())?;
     remove(&workers.files.record)?;
-    let file = File::open(path).map_err(cannot("open", path))?;
+    let file = open(path)?;
     let worker = workers.decode_until(every, |record| is_time(sent, record, &file))?;
     let lived = worker.lived;
     if !worker.was_killed() {
@@ -214,18 +216,12 @@ fn deliver_again(workers: &Workers, cut: &Cut) -> Result<(), String> {
 }
 
 fn panels<'a>(sent: &'a Sent, cut: &'a Cut, left: &'a [u8]) -> [Panel<'a>; 3] {
-    let whole = |caption, bytes| Panel {
-        caption,
-        bytes,
-        written: sent.size(),
-        recorded: None,
-    };
+    let whole = |caption, bytes| Panel::whole(&sent.grid, caption, bytes);
     let middle = match cut.is_on_the_way() {
         true => Panel {
-            caption: "when worker 1 was killed",
-            bytes: &cut.output,
-            written: cut.right / sent.channels,
+            written: cut.right / sent.grid.channels,
             recorded: Some(cut.record.pixels_done()),
+            ..whole("when worker 1 was killed", &cut.output)
         },
         false => whole("what worker 1 left", &cut.output),
     };
@@ -239,26 +235,6 @@ fn panels<'a>(sent: &'a Sent, cut: &'a Cut, left: &'a [u8]) -> [Panel<'a>; 3] {
 /// How many bytes are the same, from the first on.
 fn same_bytes(a: &[u8], b: &[u8]) -> usize {
     a.iter().zip(b).take_while(|(a, b)| a == b).count()
-}
-
-fn read(path: &Path) -> Result<Vec<u8>, String> {
-    fs::read(path).map_err(cannot("read", path))
-}
-
-fn write(path: &Path, bytes: &[u8]) -> Result<(), String> {
-    fs::write(path, bytes).map_err(cannot("write", path))
-}
-
-/// Removes a file that need not be there.
-fn remove(path: &Path) -> Result<(), String> {
-    match fs::remove_file(path) {
-        Err(error) if error.kind() != ErrorKind::NotFound => Err(cannot("remove", path)(error)),
-        _ => Ok(()),
-    }
-}
-
-fn cannot<'a>(what: &'a str, path: &'a Path) -> impl FnOnce(io::Error) -> String + 'a {
-    move |error| format!("{}: cannot {what}: {error}", path.display())
 }
 
 #[cfg(test)]

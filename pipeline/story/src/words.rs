@@ -18,8 +18,8 @@ pub fn shown(path: &Path) -> String {
     within.display().to_string()
 }
 
-/// A number with a comma before each three digits.
-pub fn grouped(number: usize) -> String {
+/// A whole number with a comma before each three digits.
+pub fn grouped(number: impl ToString) -> String {
     let digits = number.to_string();
     let mut grouped = String::new();
     for (place, digit) in digits.chars().enumerate() {
@@ -29,6 +29,20 @@ pub fn grouped(number: usize) -> String {
         grouped.push(digit);
     }
     grouped
+}
+
+/// How long a message is, and beside its pixels.
+pub fn encoded(message: usize, pixels: usize) -> String {
+    let share = message as f64 / pixels as f64;
+    format!(
+        "encoded: {} bytes ({share:.2} of the pixels)",
+        grouped(message)
+    )
+}
+
+/// Rain in millimetres, of which it has hundredths.
+pub fn millimetres(hundredths: u128) -> String {
+    format!("{}.{:02} mm", grouped(hundredths / 100), hundredths % 100)
 }
 
 /// A time in milliseconds.
@@ -48,6 +62,18 @@ mod tests {
         let numbers = [0, 999, 1_000, 12_345, 1_234_567];
         let words = ["0", "999", "1,000", "12,345", "1,234,567"];
         assert_eq!(numbers.map(grouped), words);
+    }
+
+    #[test]
+    fn a_share_has_two_digits_after_the_point() {
+        let words = "encoded: 1,000 bytes (0.33 of the pixels)";
+        assert_eq!(encoded(1_000, 3_000), words);
+    }
+
+    #[test]
+    fn rain_has_two_digits_after_the_point() {
+        assert_eq!(millimetres(7), "0.07 mm");
+        assert_eq!(millimetres(123_456_789), "1,234,567.89 mm");
     }
 
     #[test]

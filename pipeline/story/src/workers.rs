@@ -1,11 +1,15 @@
-//! The workers: processes of their own, one of which is killed.
+//! The workers: processes of their own, some of which are killed.
 use pivotshade::Record;
 use std::fs;
+use std::os::unix::process::ExitStatusExt;
 use std::path::{Path, PathBuf};
 use std::process::{Child, Command, Output, Stdio};
 use std::thread::sleep;
 use std::time::{Duration, Instant};
 use worker::saved;
+
+/// The signal that cannot be caught.
+const SIGKILL: i32 = 9;
 
 /// Between two looks at the record.
 const LOOK: Duration = Duration::from_micros(20);
@@ -61,9 +65,14 @@ impl Ended {
         }
     }
 
+    /// What it printed.
+    pub fn words(&self) -> String {
+        String::from_utf8_lossy(&self.output.stdout).into_owned()
+    }
+
     /// Whether the kill reached it before its own end.
     pub fn was_killed(&self) -> bool {
-        self.output.status.code().is_none()
+        self.output.status.signal() == Some(SIGKILL)
     }
 }
 
@@ -126,8 +135,39 @@ impl Workers<'_> {
     }
 }
 
+/// The worker's program, and the table that those of the month share.
+pub struct Counters<'a> {
+    /// The program.
+    pub program: &'a Path,
+    /// The table.
+    pub table: &'a Path,
+}
+
+impl Counters<'_> {
+    /// Starts one on the message of an hour.
+    pub fn start(&self, message: &Path, hour: usize) -> Result<Started, String> {
+        let mut command = self.command("count");
+        command.arg(message).args(["--hour", &hour.to_string()]);
+        Started::new(command)
+    }
+
+    /// The totals, as one of them prints the table.
+    pub fn totals(&self) -> Result<Vec<u64>, String> {
+        let printer = Started::new(self.command("totals"))?.end()?;
+        let printed = printer.well("the worker that prints the totals")?.words();
+        let total = |line: &str| line.parse().map_err(|_| format!("{line} is no total"));
+        printed.lines().map(total).collect()
+    }
+
+    fn command(&self, name: &str) -> Command {
+        let mut command = Command::new(self.program);
+        command.arg(name).arg("--table").arg(self.table);
+        command
+    }
+}
+
 /// A worker that was started.
-struct Started {
+pub struct Started {
     child: Child,
     since: Instant,
 }
@@ -135,7 +175,8 @@ struct Started {
 impl Started {
     fn new(mut command: Command) -> Result<Self, String> {
         // what it says is shown where it fails; a progress bar would stay where it is killed
-        command.stdin(Stdio::null()).stderr(Stdio::piped());
+        command.stdin(Stdio::null());
+        command.stdout(Stdio::piped()).stderr(Stdio::piped());
         let since = Instant::now();
         let child = command.spawn().map_err(cannot("start a worker"))?;
         Ok(Self { child, since })
@@ -146,15 +187,16 @@ impl Started {
         Ok(status.map_err(cannot("wait for a worker"))?.is_none())
     }
 
-    fn kill(&mut self) -> Result<(), String> {
-        // one that has ended by itself cannot be killed
+    /// Kills it, unless it has ended.
+    pub fn kill(&mut self) -> Result<(), String> {
         match self.is_alive()? {
             true => self.child.kill().map_err(cannot("kill a worker")),
             false => Ok(()),
         }
     }
 
-    fn end(self) -> Result<Ended, String> {
+    /// Waits for its end.
+    pub fn end(self) -> Result<Ended, String> {
         let output = self.child.wait_with_output();
         Ok(Ended {
             output: output.map_err(cannot("wait for a worker"))?,
