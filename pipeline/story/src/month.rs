@@ -137,7 +137,7 @@ fn deliver(files: &Files, counters: &Counters, queue: &mut Queue) -> Result<Deli
                     delivered.killed += 1;
                     queue.put(hour);
                 }
-                false => delivered.take(worker.well("a worker that counts")?),
+                false => delivered.take(worker.well(&format!("the worker on hour {hour}"))?),
             }
         }
     }
@@ -182,7 +182,7 @@ impl Delivered {
             grouped(self.killed)
         ));
         say(format_args!(
-            "two at once {} times, and {} times with the same hour",
+            "two at once {} times, {} of them with the same hour",
             grouped(self.at_once),
             grouped(self.the_same)
         ));

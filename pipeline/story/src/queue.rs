@@ -4,8 +4,8 @@ use crate::random::Random;
 /// Of a hundred hours, how many come three times, and how many twice.
 const THREE_TIMES: usize = 4;
 const TWICE: usize = 30;
-/// Once in so many times two messages are delivered at once, and once in so many of these, where that can be, the same one twice.
-const AT_ONCE: usize = 3;
+/// Once in so many times a message is delivered alone, and else two at once: of these once in so many times, where that can be, the same one twice.
+const ALONE: usize = 4;
 const THE_SAME: usize = 2;
 
 /// What is still to be delivered.
@@ -55,7 +55,7 @@ impl Queue {
     pub fn deliver(&mut self) -> Option<Vec<usize>> {
         let hour = self.left.pop()?;
         let mut hours = vec![hour];
-        if self.random.one_in(AT_ONCE) {
+        if !self.random.one_in(ALONE) {
             hours.extend(self.beside(hour));
         }
         Some(hours)
