@@ -4,7 +4,8 @@ use mathlib.Core.Bool.{Bool, true, false, cond}
 use mathlib.Core.List.{List, [], _∷_, _++_}
 use mathlib.Core.Option.{Option, none, some, Option·map}
 use mathlib.Core.Path.{_≡_, refl, sym, _∙_, ap}
-use Prim.Native.Nat.{ℕ, zero, suc, _+_, _*_, _^_, _≤_, _<_}
+use Prim.Native.Nat.{ℕ, zero, suc, _+_, _*_, _/_, _^_, _≤_, _<_}
+use native.Mathlib.Decide.{decLt}
 use native.Mathlib.Omega.{arith}
 use borrow.Author.Tests.{lt-ltb, le-ltb, ltb-true}
 use lib.Dec.{ltb}
@@ -12,7 +13,7 @@ use lib.ListN.{length, getD, set, take, drop}
 use lib.Seq.{getD-drop, length-take-le, drop-cons, take-suc, append-snoc, getD-at, set-at}
 use Rattle.header.specs.Header.{numberAt}
 use Rattle.totals.specs.Counting.{cellsOf, addedTo, firstPast}
-use Rattle.totals.specs.Framing.{sums}
+use Rattle.totals.specs.Framing.{sums, HighBelow}
 
 -- the number at a place after some bytes
 number-after : (n : ℕ) (bytes : List ℕ) (at : ℕ) → numberAt (drop n bytes) at ≡ numberAt bytes (n + at)
@@ -90,6 +91,22 @@ first-at [] i below before past = absurd (omega arith)
 first-at (t ∷ ts) zero below before past = rw (le-ltb t (2 ^ 64) past)
 first-at (t ∷ ts) (suc i) below before past =
     rw (lt-ltb t (2 ^ 64) (before 0 (omega arith)), first-at ts i (omega arith) (λ k less. before (suc k) (omega arith)) past)
+
+-- one block of small high halves after another
+pub high-on :
+    (ts : List ℕ) (i end small bound : ℕ) → HighBelow ts 0 i bound → HighBelow ts i end small → small ≤ bound → HighBelow ts 0 end bound
+high-on ts i end small bound before block less k below least = go (decLt k i)
+  where
+    go : Dec (k < i) → getD ts k 0 / 4294967296 < bound
+    go (yes passed) = before k passed least
+    go (no from) = omega (arith, block k below (omega (arith, from)))
+
+-- no frame of bytes brings a total with a small high half past 2^64-1
+pub sure-sum :
+    (ts frame : List ℕ) (k : ℕ) → k < length ts → getD ts k 0 / 4294967296 < 4294967295 → ((j : ℕ) → getD frame j 0 < 256)
+    → getD (sums ts frame) k 0 < 2 ^ 64
+sure-sum ts frame k below small bytes =
+    omega (arith, sum-at ts frame k below, bytes (k * 4), bytes (k * 4 + 1), bytes (k * 4 + 2), bytes (k * 4 + 3))
 
 -- two lists of one length: the first i numbers of the one, and then the other's
 module _ (s t : List ℕ) (i : ℕ) (below : i < length t) (same : length s ≡ length t) where

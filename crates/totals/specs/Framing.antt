@@ -2,8 +2,8 @@
 use mathlib.Core.List.{List}
 use mathlib.Core.Option.{Option, none, some}
 use mathlib.Core.Path.{_≡_}
-use Prim.Native.Nat.{ℕ}
-use lib.ListN.{length}
+use Prim.Native.Nat.{ℕ, _/_, _≤_, _<_}
+use lib.ListN.{length, getD}
 use Rattle.rules.specs.Bytes.{writtenOver}
 use Rattle.rules.specs.Decode.{decoding}
 use Rattle.totals.specs.declared.FrameRead.{FrameRead}
@@ -20,6 +20,10 @@ sums totals buffer = addedTo totals (cellsOf (length totals) buffer)
 abbrev pub pastOf : Past → Option ℕ
 pastOf (At cell) = some cell
 pastOf Nowhere = none
+
+-- the high halves of the numbers from one place to another are below a bound
+abbrev pub HighBelow : List ℕ → ℕ → ℕ → ℕ → Type 0
+HighBelow totals from to bound = (k : ℕ) → k < to → from ≤ k → getD totals k 0 / 4294967296 < bound
 
 -- the answer for a frame: its cells stand in the buffer
 abbrev pub readAs : Frame → FrameRead

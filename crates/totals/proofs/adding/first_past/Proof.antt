@@ -4,9 +4,10 @@ use Prim.Native.Nat.{ℕ, _+_, _*_, _-_, _^_, _≤_, _<_}
 use mathlib.Core.Path.{_≡_, sym}
 use native.Mathlib.Omega.{arith}
 use borrow.Author.Count.{below-more}
+use borrow.Author.Needs.{needs}
 use lib.ListN.{length, getD}
 use Rattle.totals.specs.Framing.{sums}
-use Rattle.totals.proofs.Sums.{sum-at, sums-length, none-past, first-at}
+use Rattle.totals.proofs.Sums.{sure-sum, sum-at, sums-length, none-past, first-at}
 use Rattle.totals.proofs.adding.first_past.Statement.{statement}
 use Rattle.totals.proofs.adding.first_past.Tie as tie
 
@@ -17,7 +18,13 @@ abbrev μ-loop : tie.MeasureT-loop
 μ-loop frame totals i₀ i = length totals - i
 
 loop-holds : tie.Need-loop-holds Inv-loop μ-loop
-loop-holds c = (omega arith, λ k (below : k < 0). absurd (omega arith))
+loop-holds c =
+    let a = c .before .before .before .args in
+    let sure = c .sure-to-fit .ensures in (
+      sure .0,
+      λ k (below : k < c .sure-to-fit .result).
+          sure-sum (a .totals .now) (a .frame .now) k (omega arith) (sure .1 k below (omega arith)) (λ j. omega (arith, c .before .before .shared-slice-known .given j)),
+    )
 
 mul-rain-at : tie.Need-mul-rain-at Inv-loop μ-loop
 mul-rain-at c = omega arith
@@ -36,7 +43,7 @@ shared-slice-read-if1 c = omega arith
 
 returns : tie.Need-returns Inv-loop μ-loop
 returns c =
-    let a = c .before .before .before .before .before .before .before .args in
+    let a = c .before .before .before .before .before .before .before .before .args in
     let l = c .before .before .before .before .loop in
     let below : l .i < length (a .totals .now) = omega arith in
     sym
@@ -51,7 +58,7 @@ loop-less c = omega arith
 
 loop-again : tie.Need-loop-again Inv-loop μ-loop
 loop-again c =
-    let a = c .before .before .before .before .before .before .before .args in
+    let a = c .before .before .before .before .before .before .before .before .args in
     let l = c .before .before .before .before .loop in
     let below : l .i < length (a .totals .now) = omega arith in (
       omega arith,
@@ -60,7 +67,7 @@ loop-again c =
 
 returns-2 : tie.Need-returns-2 Inv-loop μ-loop
 returns-2 c =
-    let a = c .before .before .before .before .args in
+    let a = c .before .before .before .before .before .args in
     let same = sums-length (a .totals .now) (a .frame .now) in
     sym
     (none-past (sums (a .totals .now) (a .frame .now))
@@ -72,6 +79,7 @@ first-past-spec =
     (tie.spec
     Inv-loop
     μ-loop
+    (λ c κs. search needs)
     loop-holds
     mul-rain-at
     rain-at-requires
