@@ -23,11 +23,7 @@ use Rattle.rules.specs.Bytes.{repeated}
 use Rattle.rules.specs.Chunk.{Chunk, INDEX, Found, cut, chunk, needing, chunkFrom, chunkAt, colourOf, timesOf}
 use Rattle.rules.specs.Reading.{Place, Answer, done, refused, Move, more, end, Reading, silent, readOn, closing, startPlace, sizeWanted, pixelsBrought, pixelAfter, placeAfter, bytesOf, moveBy, move, reading, remaining, readingInto, afterWanted, afterHeader, wholeReading}
 use Rattle.rules.specs.Decode.{decoder, decoderKeeps, decoderReadsRgba, decoding}
-
--- what holds of both branches holds
-either : {A : Type 0} (P : A → Type 0) (b : Bool) (x y : A) → P x → P y → P (cond b x y)
-either P true x y left right = left
-either P false x y left right = right
+use Rattle.totals.proofs.Sums.{either}
 
 repeated-length : (n : ℕ) (l : List ℕ) → length l ≡ 4 → length (repeated n l) ≡ n * 4
 unfolding repeated

@@ -15,6 +15,11 @@ use Rattle.header.specs.Header.{numberAt}
 use Rattle.totals.specs.Counting.{cellsOf, addedTo, firstPast}
 use Rattle.totals.specs.Framing.{sums, HighBelow}
 
+-- what holds of both branches holds
+pub either : {A : Type 0} (P : A → Type 0) (b : Bool) (x y : A) → P x → P y → P (cond b x y)
+either P true x y left right = left
+either P false x y left right = right
+
 -- the number at a place after some bytes
 number-after : (n : ℕ) (bytes : List ℕ) (at : ℕ) → numberAt (drop n bytes) at ≡ numberAt bytes (n + at)
 number-after n bytes at = simp getD-drop (simp (sym (assoc 1), sym (assoc 2), sym (assoc 3)))

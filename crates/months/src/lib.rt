@@ -1,0 +1,1 @@
+// No code: a month of rain totals, as definitions (specs/) and theorems (proofs/) over what one call answers and leaves.
