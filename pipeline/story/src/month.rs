@@ -194,7 +194,7 @@ impl Delivered {
         match unsaid.filter(|&unsaid| unsaid <= self.killed) {
             Some(0) => {}
             Some(unsaid) => say(format_args!(
-                "of the killed, {unsaid} had counted and not said so: each of these hours came again, and was counted already"
+                "of the killed, {unsaid} had counted and not said so: such an hour came again, and was counted already"
             )),
             None => {
                 return Err(format!(
