@@ -36,7 +36,7 @@ calls-right n (c ∷ cs) bytes first t right =
     (call-right n first t right c (frame-small n c (bytes c (List·Memᴰ·head refl)))))
 
 -- an answer whose number is below 21
-abbrev Below : Counted → Type 0
+abbrev pub Below : Counted → Type 0
 Below (Done used) = Unit {0}
 Below Already = Unit {0}
 Below (Refused e) = numberOf e < 21
@@ -68,10 +68,14 @@ module _ (n : ℕ) (cs : List Call) (bytes : MessagesOfBytes cs) where
       (c : Call) → AllBytes (c .message) → counting (month (fresh n) cs) c .answer ≡ answerAfter n (firstFor n cs) c
   answers-are c fine = call-answers n (firstFor n cs) (month (fresh n) cs) after-calls c (frame-small n c fine)
 
-  -- so 21 never occurs from a fresh table
+  -- so its number is below 21, or it is no refusal
+  pub answers-below : (c : Call) → AllBytes (c .message) → Below (counting (month (fresh n) cs) c .answer)
+  answers-below c fine = subst Below (sym (answers-are c fine)) (answer-below n (firstFor n cs) c)
+
+  -- and 21 never occurs from a fresh table
   pub never-past :
       (c : Call) → AllBytes (c .message) → (cell : ℕ)
       → counting (month (fresh n) cs) c .answer ≡ Refused (TotalTooLarge cell) → ⊥
   never-past c fine cell past =
-      let below : 21 < 21 = subst Below (sym (answers-are c fine) ∙ past) (answer-below n (firstFor n cs) c) in
+      let below : 21 < 21 = subst Below past (answers-below c fine) in
       omega arith

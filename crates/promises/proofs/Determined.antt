@@ -2,7 +2,7 @@
 -- lent memory. Its line stands under its path, `crate·module·Type·name`, which tools/determined holds to the sources;
 -- `Kinds` are its types and `Reads` its contract as the checker reads them off the source.
 -- Assumes nothing.
-use mathlib.Core.Path.{_≡_, refl, sym, _∙_}
+use mathlib.Core.Path.{_≡_, refl, sym, _∙_, ap}
 use denote.Ref.{ptr, now}
 use Rattle.text.proofs.Text as Text
 use Rattle.text.specs.Text.{textOf}
@@ -23,6 +23,8 @@ use Rattle.decode.proofs as decode
 use Rattle.encode.proofs as encode
 use Rattle.encode.proofs.Encoder as Encoder
 use Rattle.strict.proofs as strict
+use Rattle.totals.proofs as totals
+use Rattle.totals.specs.Counting.{Outcome}
 use Rattle.report.proofs as report
 use Rattle.qoi.proofs as qoi
 use Rattle.resume.specs.State.{state-determined}
@@ -328,6 +330,15 @@ encode·encode-to-buf κs a z z′ e e′ ok ok′ p q =
 pub strict·strict : Determined strict.strict.Kinds.ps strict.strict.Kinds.r strict.strict.Reads.Post
 strict·strict κs a z z′ e e′ ok ok′ p q = (verdict-determined z z′ (p ∙ sym q), refl)
 
+-- ---- crate `totals`
+pub totals·count : Determined totals.count.Kinds.ps totals.count.Kinds.r totals.count.Reads.Post
+totals·count κs a z z′ e e′ ok ok′ p q =
+    let same = p .0 ∙ sym (q .0) in
+    let frame = p .1 ∙ sym (q .1) in
+    let sums = ap (λ (o : Outcome). o .table .totals) same in
+    let marks = ap (λ (o : Outcome). o .table .marks) same in
+    (ap (λ (o : Outcome). o .answer) same, λ i. (tt, (tt, (frame i, (sums i, (marks i, tt))))))
+
 -- ---- crate `report`
 pub report·line : Determined report.line.Kinds.ps report.line.Kinds.r report.line.Reads.Post
 report·line κs a z z′ e e′ ok ok′ p q =
@@ -372,6 +383,14 @@ qoi·pivotshade-run κs a z z′ e e′ ok ok′ p q =
     let out = p .1 .0 ∙ sym (q .1 .0) in
     let next = p .1 .1 ∙ sym (q .1 .1) in
     (returned-same same, λ i. (tt, (tt, (out i, (tt, (next i, (figures-same same i, tt)))))))
+
+pub qoi·pivotshade-count : Determined qoi.pivotshade_count.Kinds.ps qoi.pivotshade_count.Kinds.r qoi.pivotshade_count.Reads.Post
+qoi·pivotshade-count κs a z z′ e e′ ok ok′ p q =
+    let same = p .0 ∙ sym (q .0) in
+    let frame = p .1 ∙ sym (q .1) in
+    let sums = p .2 ∙ sym (q .2) in
+    let marks = p .3 ∙ sym (q .3) in
+    (returned-same same, λ i. (tt, (tt, (frame i, (sums i, (marks i, (figures-same same i, tt)))))))
 
 pub qoi·pivotshade-text : Determined qoi.pivotshade_text.Kinds.ps qoi.pivotshade_text.Kinds.r qoi.pivotshade_text.Reads.Post
 qoi·pivotshade-text κs a z z′ e e′ ok ok′ p q =

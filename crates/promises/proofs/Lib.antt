@@ -1,5 +1,6 @@
 -- What the contracts of the public functions promise together: the proofs.
 pub mod Hosts
+pub mod Months
 pub mod Pictures
 pub mod Stores
 pub mod Strict
