@@ -21,7 +21,7 @@ use Rattle.totals.proofs.count.Tie as tie
 returns : tie.Need-returns
 returns c =
     let a = c .before .before .before .before .args in
-    let leaves = above (record { totals = a .totals .now; marks = a .marks .now }) (a .hour) (a .message .now) (a .frame .now) (c .if1 .taken) in
+    let leaves = above (record { totals = a .totals .now; marks = a .marks .now }) (a .hour) (a .message .now) (a .frame .now) (omega arith) in
     (sym (leaves .0), sym (leaves .1))
 
 returns-2 : tie.Need-returns-2
@@ -59,7 +59,7 @@ decides :
     × (frameAfter (table c) (hour c) (message c) (before c) ≡ buffer c)
 decides c =
     let e = c .before .before in
-    let leaves = unmarked (table c) (hour c) (message c) (before c) (e .before .before .if1 .left) (e .if2 .left) in
+    let leaves = unmarked (table c) (hour c) (message c) (before c) (omega arith) (e .if2 .left) in
     (leaves .0, leaves .1 ∙ sym (c .read-frame .ensures .1))
 
 -- a frame that was read stands in the buffer
