@@ -1,12 +1,11 @@
 //! Part one: the worker itself, killed at any moment, also in the middle of a write, and others that go on from what it left.
-use crate::bench::{wait, Bench, Ended, Order, Pair};
+use crate::bench::{killed_in_time, Bench, Ended, Order, Pair, Timed};
 use crate::pictures::{a_chunk_ends_after, some_bytes, Family};
 use crate::random::Random;
 use crate::undisturbed::{
     checked_output, checked_pair, first_difference, some_decode, Undisturbed,
 };
 use std::process::Child;
-use std::thread::sleep;
 use std::time::{Duration, Instant};
 
 /// The fewest steps between two records.
@@ -60,9 +59,6 @@ fn some_decodes(random: &mut Random) -> Vec<Undisturbed> {
     });
     decodes.collect()
 }
-
-/// A worker, and when to kill it.
-type Timed = (Option<Instant>, Child);
 
 /// One message on its way to one output.
 struct History<'a> {
@@ -153,10 +149,13 @@ impl<'a> History<'a> {
         };
         let mut workers = self.start_some(several, restarts)?;
         if is_watched {
-            self.kill_at_some_byte(&mut workers[0].1)?;
+            self.kill_at_some_byte(&mut workers[0].worker)?;
         }
-        let ended = killed_in_time(workers)?;
-        let statuses: Vec<i32> = ended.iter().filter_map(|worker| worker.status).collect();
+        let ended: Vec<_> = killed_in_time(workers).collect::<Result<_, _>>()?;
+        let statuses: Vec<i32> = ended
+            .iter()
+            .filter_map(|(_, worker)| worker.status)
+            .collect();
         self.check_statuses(&statuses)?;
         let was = self.stand;
         let pair = self.bench.pair()?;
@@ -174,7 +173,7 @@ impl<'a> History<'a> {
     }
 
     /// Starts workers, each with the time to kill it; one of several may come to its end.
-    fn start_some(&mut self, several: usize, restarts: bool) -> Result<Vec<Timed>, String> {
+    fn start_some(&mut self, several: usize, restarts: bool) -> Result<Vec<Timed<()>>, String> {
         let started = Instant::now();
         let workers = (0..several).map(|number| {
             let restart = restarts && number == 0;
@@ -183,8 +182,12 @@ impl<'a> History<'a> {
                 ..self.order
             };
             let is_killed = several == 1 || !self.random.one_in(6);
-            let time = is_killed.then_some(started + self.some_time());
-            Ok((time, self.bench.start(order)?))
+            let kill_at = is_killed.then_some(started + self.some_time());
+            Ok(Timed {
+                kill_at,
+                worker: self.bench.start(order)?,
+                work: (),
+            })
         });
         workers.collect()
     }
@@ -309,18 +312,4 @@ fn some_output(random: &mut Random, decode: &Undisturbed) -> Option<Vec<u8>> {
         }
     }
     Some(bytes)
-}
-
-/// Kills each worker at its time, the earliest first, and waits for those that have none.
-fn killed_in_time(mut workers: Vec<Timed>) -> Result<Vec<Ended>, String> {
-    workers.sort_by_key(|(time, _)| (time.is_none(), *time));
-    let killed = workers.into_iter().map(|(time, mut worker)| {
-        if let Some(time) = time {
-            sleep(time.saturating_duration_since(Instant::now()));
-            // one that has ended by itself cannot be killed, and is waited for all the same
-            let _ = worker.kill();
-        }
-        wait(worker)
-    });
-    killed.collect()
 }

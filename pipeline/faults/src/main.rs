@@ -6,7 +6,10 @@ mod damage;
 mod forgetful;
 mod kills;
 mod largest;
+mod ledger;
 mod losses;
+mod month;
+mod month_kills;
 mod pictures;
 // the test host's own, of which not all is needed here
 #[allow(dead_code)]
@@ -16,7 +19,7 @@ mod turns;
 mod undisturbed;
 mod wrong;
 
-use bench::Bench;
+use bench::{Bench, TableBench};
 use random::Random;
 use std::env;
 use std::fs;
@@ -81,9 +84,9 @@ fn parse() -> Option<Given> {
 
 /// Both parts, and that the second would find a fault; what goes wrong first ends it.
 fn tried(given: &Given) -> Result<(), String> {
-    let (kills, losses, damages) = match given.is_long {
-        true => (5000, 60_000, 100),
-        false => (1000, 10_000, 12),
+    let (kills, losses, damages, month_kills) = match given.is_long {
+        true => (5000, 60_000, 100, 3000),
+        false => (1000, 10_000, 12, 300),
     };
     let bench = |name, is_apart| Bench::new(&given.worker, &given.folder.join(name), is_apart);
     let benches = [bench("together", false)?, bench("apart", true)?];
@@ -100,6 +103,20 @@ fn tried(given: &Given) -> Result<(), String> {
     let damages = damage::damage(&benches[0], &mut random, damages).map_err(kept)?;
     println!(
         "damages: {damages} records and outputs that no worker left, each refused and begun anew"
+    );
+    let table = TableBench::new(&given.worker, &given.folder.join("month"))?;
+    let months =
+        month_kills::kill(&table, &mut random, month_kills, given.is_long).map_err(kept)?;
+    println!(
+        "months: {} kills of counting workers, {} of them between the write beside and the rename, {} after it; \
+         {} counted, {} counted already, {} refused; {} months, every total right",
+        months.kills,
+        months.beside,
+        months.told.unsaid,
+        months.told.counted,
+        months.told.already,
+        months.told.refused,
+        months.months
     );
     if given.is_long {
         largest::largest(&given.worker, &given.folder, &mut random).map_err(kept)?;

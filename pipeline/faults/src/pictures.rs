@@ -19,8 +19,28 @@ pub enum Family {
 
 pub const FAMILIES: [Family; 3] = [Family::Rain, Family::Photo, Family::Noise];
 
-/// The message of such a picture. No byte of its pixels is 0, so that what is missing in a new output is seen.
+/// The message of such a picture.
 pub fn message(
+    random: &mut Random,
+    family: Family,
+    channels: Channels,
+    width: usize,
+    height: usize,
+) -> Vec<u8> {
+    encoded(
+        &pixels(random, family, channels, width, height),
+        width,
+        height,
+    )
+}
+
+/// The message of these pixels.
+pub fn encoded(pixels: &[u8], width: usize, height: usize) -> Vec<u8> {
+    encode_to_vec(pixels, width as u32, height as u32).expect("its length is right")
+}
+
+/// The pixels of such a picture. No byte of them is 0, so that what is missing in a new output is seen.
+pub fn pixels(
     random: &mut Random,
     family: Family,
     channels: Channels,
@@ -33,7 +53,7 @@ pub fn message(
         last = next(random, family, last, place % width).map(|byte| byte.max(1));
         pixels.extend(&last[..channels.as_u8().into()]);
     }
-    encode_to_vec(pixels, width as u32, height as u32).expect("its length is right")
+    pixels
 }
 
 /// The pixel after `last`, in this column.
@@ -53,13 +73,24 @@ fn next(random: &mut Random, family: Family, last: [u8; 4], column: usize) -> [u
 }
 
 /// The message as it may arrive: most often whole, otherwise cut short among its chunks, or with a wrong end marker.
-pub fn as_delivered(random: &mut Random, mut message: Vec<u8>) -> Vec<u8> {
-    let chunks_end = message.len() - MARKER;
+pub fn as_delivered(random: &mut Random, message: Vec<u8>) -> Vec<u8> {
     match random.below(6) {
-        0 => message.truncate(random.between(HEADER, chunks_end - 1)),
-        1 => message[chunks_end + random.below(MARKER)] ^= 1 << random.below(8),
-        _ => {}
+        0 => cut_short(random, message),
+        1 => with_wrong_marker(random, message),
+        _ => message,
     }
+}
+
+/// The message cut short among its chunks.
+pub fn cut_short(random: &mut Random, mut message: Vec<u8>) -> Vec<u8> {
+    message.truncate(random.between(HEADER, message.len() - MARKER - 1));
+    message
+}
+
+/// The message with a wrong bit in its end marker.
+pub fn with_wrong_marker(random: &mut Random, mut message: Vec<u8>) -> Vec<u8> {
+    let place = message.len() - MARKER + random.below(MARKER);
+    message[place] ^= 1 << random.below(8);
     message
 }
 
