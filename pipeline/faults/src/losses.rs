@@ -1,39 +1,58 @@
 //! Part two: workers on a disk that forgets. The power is cut under them at any call, or one is killed, and others go on with what is left.
 use crate::forgetful::{Forgetful, Lost};
+use crate::ledger::Told;
 use crate::pictures::{some_bytes, FAMILIES};
 use crate::random::Random;
-use crate::turns::{Left, Plan, Seat, Turns, Until};
+use crate::turns::{at_once, Left, Plan, Turns, Until, Within};
 use crate::undisturbed::{checked_output, checked_pair, some_decode, Found, Undisturbed};
 use crate::wrong::{Wrong, WrongDisk};
 use std::mem::take;
-use std::panic::{catch_unwind, AssertUnwindSafe};
 use std::path::{Path, PathBuf};
-use std::thread;
 use worker::decode::{decode, Job};
 
 /// Records that one decode saves, at most about.
 const SAVES: usize = 40;
-/// The status of a program that panics.
-const PANICKED: u8 = 101;
+/// Calls within which workers are cut off: often few, since a worker that begins has most to do right.
+const WITHIN: Within = Within {
+    calls: &[10, 20, 40, 80, 160, 320],
+    of_names: &[4, 20],
+};
 
 /// What was done, and seen.
 #[derive(Default)]
 pub struct Losses {
     pub crashes: usize,
-    /// Crashes that took away a write, in part or whole, or the record's rename; and those that took away the rename.
+    /// Crashes that took away a write, in part or whole, or the rename of the record or the table; and those that took away that rename.
     pub losses: usize,
     pub renames: usize,
     pub kills: usize,
+    /// Of decodes.
     pub take_ups: usize,
     pub bytes: usize,
+    /// Of counts.
+    pub months: usize,
+    pub told: Told,
 }
 
+impl Losses {
+    /// Counts a crash; `renamed` is the path of the record or the table.
+    pub fn count(&mut self, lost: &Lost, renamed: &Path) {
+        let rename = lost.names.iter().any(|name| name == renamed);
+        self.crashes += 1;
+        self.losses += usize::from(lost.write || rename);
+        self.renames += usize::from(rename);
+    }
+}
+
+/// A whole history of workers, right ones or wrong ones.
+pub type Lived = fn(Random, Option<Wrong>, &mut Losses) -> Result<(), String>;
+
 /// Histories, each of its own seed, until so many crashes took something away.
-pub fn lose(seed: u64, wanted: usize) -> Result<Losses, String> {
+pub fn lose(lived: Lived, seed: u64, wanted: usize) -> Result<Losses, String> {
     let mut counts = Losses::default();
     let mut history = 0;
     while counts.losses < wanted {
-        lived(seed, history, None, &mut counts)
+        lived(random_of(seed, history), None, &mut counts)
             .map_err(|words| format!("losses, history {history}: {words}"))?;
         history += 1;
     }
@@ -41,11 +60,11 @@ pub fn lose(seed: u64, wanted: usize) -> Result<Losses, String> {
 }
 
 /// After how many crashes a wrong worker is caught, if it is within so many; and by what.
-pub fn caught(seed: u64, wrong: Wrong, most: usize) -> Option<(usize, String)> {
+pub fn caught(lived: Lived, seed: u64, wrong: Wrong, most: usize) -> Option<(usize, String)> {
     let mut counts = Losses::default();
     let mut history = 0;
     while counts.crashes < most {
-        if let Err(words) = lived(seed, history, Some(wrong), &mut counts) {
+        if let Err(words) = lived(random_of(seed, history), Some(wrong), &mut counts) {
             return Some((counts.crashes, words));
         }
         history += 1;
@@ -53,16 +72,20 @@ pub fn caught(seed: u64, wrong: Wrong, most: usize) -> Option<(usize, String)> {
     None
 }
 
-/// A whole history, from files as somebody left them to the output's end.
-fn lived(seed: u64, number: u64, wrong: Option<Wrong>, counts: &mut Losses) -> Result<(), String> {
-    let random = Random::new(seed.wrapping_add(number << 32));
+fn random_of(seed: u64, history: u64) -> Random {
+    Random::new(seed.wrapping_add(history << 32))
+}
+
+/// A decode, from files as somebody left them to the output's end.
+pub fn lived(random: Random, wrong: Option<Wrong>, counts: &mut Losses) -> Result<(), String> {
     let mut history = History::new(random, wrong, counts);
     if history.random.one_in(2) {
         history.begin_the_other()?;
     }
     history.know_what_is_right();
     for _ in 0..history.random.between(1, 10) {
-        let plan = history.some_plan();
+        let workers = *history.random.pick(&[1, 1, 1, 2, 2, 3]);
+        let plan = Plan::some(&mut history.random, workers, &WITHIN);
         let has_ended = history.round(THIS, &plan)?;
         // what was done once may be done again
         if has_ended && !history.random.one_in(4) {
@@ -147,56 +170,33 @@ impl<'a> History<'a> {
     /// Cuts the power where nobody is at work.
     fn cut_power(&mut self) {
         let lost = self.disk.crash(&mut self.random);
-        self.count(&lost);
+        self.counts.count(&lost, &self.record);
     }
 
     fn know_what_is_right(&mut self) {
         self.right = self.decodes[THIS].left_on(self.disk.shown(&self.output));
     }
 
-    /// One to three workers, and when they are cut off, if they are.
-    fn some_plan(&mut self) -> Plan {
-        let workers = *self.random.pick(&[1, 1, 1, 2, 2, 3]);
-        let mut plan = Plan {
-            kills: vec![None; workers],
-            crash: None,
-        };
-        if !self.random.one_in(3) {
-            plan.crash = Some(self.some_calls());
-        }
-        for worker in 0..workers {
-            if self.random.one_in(2) {
-                plan.kills[worker] = Some(self.some_calls());
-            }
-        }
-        plan
-    }
-
-    /// Often few calls, since a worker that begins has most to do right.
-    fn some_calls(&mut self) -> Until {
-        let of_names = self.random.one_in(3);
-        let most = match of_names {
-            true => *self.random.pick(&[4, 20]),
-            false => *self.random.pick(&[10, 20, 40, 80, 160, 320]),
-        };
-        Until {
-            calls: self.random.below(most),
-            of_names,
-        }
-    }
-
     /// Workers at one of the decodes, until each has ended or is cut off; then a look at what is left. Whether one has ended.
     fn round(&mut self, which: usize, plan: &Plan) -> Result<bool, String> {
         let jobs: Vec<Job> = plan.kills.iter().map(|_| self.some_job(which)).collect();
         let random = Random::new(self.random.next());
-        let turns = Turns::new(take(&mut self.disk), random, plan, &self.record);
-        let statuses = at_once(&turns, &jobs, self.wrong);
+        let turns = Turns::new(take(&mut self.disk), random, plan, Some(&self.record));
+        let wrong = self.wrong;
+        let answers = at_once(&turns, &jobs, |seat, job: &Job| match wrong {
+            None => decode(seat, job, &mut |_| {}),
+            Some(wrong) => {
+                let disk = WrongDisk::new(seat, wrong, Some(&job.output));
+                decode(&disk, job, &mut |_| {})
+            }
+        });
         let left = turns.left();
         let is_cut = left.lost.is_some();
         self.take(left);
         self.check_pair()?;
         let right = self.decodes[which].status;
-        let ended: Vec<u8> = statuses.into_iter().flatten().collect();
+        let ended = answers.into_iter().flatten();
+        let ended: Vec<u8> = ended.map(|answer| answer.err().unwrap_or(0)).collect();
         if let Some(wrong) = ended.iter().find(|&&status| status != right) {
             return Err(format!("a worker ended with {wrong} and not {right}"));
         }
@@ -240,15 +240,8 @@ impl<'a> History<'a> {
         self.counts.kills += left.kills;
         self.counts.take_ups += left.take_ups;
         if let Some(lost) = left.lost {
-            self.count(&lost);
+            self.counts.count(&lost, &self.record);
         }
-    }
-
-    fn count(&mut self, lost: &Lost) {
-        let rename = lost.names.contains(&self.record);
-        self.counts.crashes += 1;
-        self.counts.losses += usize::from(lost.write || rename);
-        self.counts.renames += usize::from(rename);
     }
 
     fn check_pair(&mut self) -> Result<(), String> {
@@ -270,10 +263,7 @@ impl<'a> History<'a> {
 
     /// A last worker ends alone, and one more finds nothing to do; and what they left lasts.
     fn end(&mut self) -> Result<(), String> {
-        let alone = Plan {
-            kills: vec![None],
-            crash: None,
-        };
+        let alone = Plan::undisturbed(1);
         self.round(THIS, &alone)?;
         self.check_output()?;
         self.check_end()?;
@@ -311,35 +301,4 @@ fn small_decode(random: &mut Random) -> Undisturbed {
     let family = *random.pick(&FAMILIES);
     let (width, height) = (random.between(8, 64), random.between(8, 48));
     some_decode(random, family, width, height)
-}
-
-/// Lets workers do these jobs at once: for each the status it ended with, if it did.
-fn at_once(turns: &Turns, jobs: &[Job], wrong: Option<Wrong>) -> Vec<Option<u8>> {
-    if let [job] = jobs {
-        return vec![work(turns, 0, job, wrong)];
-    }
-    thread::scope(|scope| {
-        let threads: Vec<_> = (0..jobs.len())
-            .map(|worker| scope.spawn(move || work(turns, worker, &jobs[worker], wrong)))
-            .collect();
-        let ended = threads.into_iter().map(|thread| thread.join());
-        ended
-            .map(|status| status.expect("it catches panics"))
-            .collect()
-    })
-}
-
-/// One worker: its status, if it came to its end.
-fn work(turns: &Turns, worker: usize, job: &Job, wrong: Option<Wrong>) -> Option<u8> {
-    let seat = Seat::new(turns, worker);
-    let ended = catch_unwind(AssertUnwindSafe(|| match wrong {
-        None => decode(&seat, job, &mut |_| {}),
-        Some(wrong) => decode(&WrongDisk::new(&seat, wrong, &job.output), job, &mut |_| {}),
-    }));
-    let status = match ended {
-        Ok(Ok(())) => 0,
-        Ok(Err(failure)) => failure.status(),
-        Err(_) => PANICKED,
-    };
-    seat.leave().then_some(status)
 }

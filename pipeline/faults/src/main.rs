@@ -10,6 +10,7 @@ mod ledger;
 mod losses;
 mod month;
 mod month_kills;
+mod month_losses;
 mod pictures;
 // the test host's own, of which not all is needed here
 #[allow(dead_code)]
@@ -20,6 +21,7 @@ mod undisturbed;
 mod wrong;
 
 use bench::{Bench, TableBench};
+use losses::Lived;
 use random::Random;
 use std::env;
 use std::fs;
@@ -84,9 +86,13 @@ fn parse() -> Option<Given> {
 
 /// Both parts, and that the second would find a fault; what goes wrong first ends it.
 fn tried(given: &Given) -> Result<(), String> {
-    let (kills, losses, damages, month_kills) = match given.is_long {
-        true => (5000, 60_000, 100, 3000),
-        false => (1000, 10_000, 12, 300),
+    let (kills, losses, damages) = match given.is_long {
+        true => (5000, 60_000, 100),
+        false => (1000, 10_000, 12),
+    };
+    let (month_kills, month_losses) = match given.is_long {
+        true => (3000, 60_000),
+        false => (300, 10_000),
     };
     let bench = |name, is_apart| Bench::new(&given.worker, &given.folder.join(name), is_apart);
     let benches = [bench("together", false)?, bench("apart", true)?];
@@ -123,7 +129,7 @@ fn tried(given: &Given) -> Result<(), String> {
         println!("400000000 pixels: killed on the way, taken over, and each byte right");
     }
     fs::remove_dir_all(&given.folder).map_err(bench::says(&given.folder))?;
-    let losses = losses::lose(given.seed, losses)?;
+    let losses = losses::lose(losses::lived, given.seed, losses)?;
     println!(
         "losses: {} of {} crashes lost what was not flushed, {} of them a rename; {} kills, {} take-ups, {} MB compared",
         losses.losses,
@@ -133,16 +139,33 @@ fn tried(given: &Given) -> Result<(), String> {
         losses.take_ups,
         losses.bytes / 1_000_000
     );
-    Wrong::ALL
-        .iter()
-        .try_for_each(|&wrong| is_caught(given.seed, wrong))
+    let losses = losses::lose(month_losses::lived, given.seed, month_losses)?;
+    println!(
+        "losses of months: {} of {} crashes lost what was not flushed, {} of them the table's rename; {} kills; \
+         {} counted, {} counted already, {} refused; {} months, every total right",
+        losses.losses,
+        losses.crashes,
+        losses.renames,
+        losses.kills,
+        losses.told.counted,
+        losses.told.already,
+        losses.told.refused,
+        losses.months
+    );
+    for wrong in Wrong::OF_A_DECODE {
+        is_caught("worker", losses::lived, given.seed, wrong)?;
+    }
+    for wrong in Wrong::OF_A_COUNT {
+        is_caught("counting worker", month_losses::lived, given.seed, wrong)?;
+    }
+    Ok(())
 }
 
-fn is_caught(seed: u64, wrong: Wrong) -> Result<(), String> {
+fn is_caught(worker: &str, lived: Lived, seed: u64, wrong: Wrong) -> Result<(), String> {
     let words = wrong.words();
-    let (crashes, by) = losses::caught(seed, wrong, CAUGHT_WITHIN).ok_or_else(|| {
-        format!("a worker that {words} is not caught within {CAUGHT_WITHIN} crashes")
+    let (crashes, by) = losses::caught(lived, seed, wrong, CAUGHT_WITHIN).ok_or_else(|| {
+        format!("a {worker} that {words} is not caught within {CAUGHT_WITHIN} crashes")
     })?;
-    println!("a worker that {words} is caught at crash {crashes}: {by}");
+    println!("a {worker} that {words} is caught at crash {crashes}: {by}");
     Ok(())
 }

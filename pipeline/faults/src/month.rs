@@ -172,8 +172,11 @@ impl Queue {
         taken
     }
 
-    /// Delivers a message again, some time.
+    /// Delivers a message again, at once or some time.
     pub fn put_back(&mut self, random: &mut Random, message: usize) {
-        self.0.insert(random.between(0, self.0.len()), message);
+        let all = self.0.len();
+        let some_place = random.below(all + 1);
+        let place = *random.pick(&[all, some_place]);
+        self.0.insert(place, message);
     }
 }

@@ -5,11 +5,16 @@ use crate::random::Random;
 use pivotshade::Record;
 use std::ffi::OsString;
 use std::io;
+use std::panic::{catch_unwind, AssertUnwindSafe};
 use std::path::{Path, PathBuf};
 use std::sync::{Condvar, Mutex, MutexGuard};
+use std::thread;
 use worker::disk::Disk;
+use worker::failure::Failure;
 use worker::saved;
 
+/// The status of a program that panics.
+const PANICKED: u8 = 101;
 /// The parts of a call that may be done where its worker is cut off in it.
 const WHOLE: usize = 64;
 
@@ -25,9 +30,11 @@ struct State {
     stays: usize,
     turn: usize,
     workers: Vec<Life>,
+    /// Files that are locked, and by whom.
+    locks: Vec<(usize, usize)>,
     until_crash: Option<Until>,
     lost: Option<Lost>,
-    record: PathBuf,
+    record: Option<PathBuf>,
     take_ups: usize,
     kills: usize,
 }
@@ -35,7 +42,11 @@ struct State {
 /// How a worker is.
 #[derive(Clone, Copy, PartialEq)]
 enum Life {
-    Lives { until_kill: Option<Until> },
+    Lives {
+        until_kill: Option<Until>,
+        /// The file whose lock it waits for.
+        waits_for: Option<usize>,
+    },
     Ended,
     CutOff,
 }
@@ -64,6 +75,50 @@ pub struct Plan {
     pub crash: Option<Until>,
 }
 
+impl Plan {
+    /// Nobody is cut off.
+    pub fn undisturbed(workers: usize) -> Self {
+        Self {
+            kills: vec![None; workers],
+            crash: None,
+        }
+    }
+
+    /// So many workers, and when they are cut off, if they are.
+    pub fn some(random: &mut Random, workers: usize, within: &Within) -> Self {
+        let mut plan = Self::undisturbed(workers);
+        if !random.one_in(3) {
+            plan.crash = Some(Until::some(random, within));
+        }
+        for worker in 0..workers {
+            if random.one_in(2) {
+                plan.kills[worker] = Some(Until::some(random, within));
+            }
+        }
+        plan
+    }
+}
+
+/// The calls within which one is cut off, all of them or only renames and flushes of folders: one of these numbers.
+pub struct Within {
+    pub calls: &'static [usize],
+    pub of_names: &'static [usize],
+}
+
+impl Until {
+    fn some(random: &mut Random, within: &Within) -> Self {
+        let of_names = random.one_in(3);
+        let most = match of_names {
+            true => *random.pick(within.of_names),
+            false => *random.pick(within.calls),
+        };
+        Self {
+            calls: random.below(most),
+            of_names,
+        }
+    }
+}
+
 /// What is left of a round.
 pub struct Left {
     pub disk: Forgetful,
@@ -76,9 +131,12 @@ pub struct Left {
 }
 
 impl Turns {
-    /// Nobody has had a turn yet. `record` is the path of the record, whose reading is counted.
-    pub fn new(disk: Forgetful, mut random: Random, plan: &Plan, record: &Path) -> Self {
-        let lives = |&until_kill: &Option<Until>| Life::Lives { until_kill };
+    /// Nobody has had a turn yet. `record` is the path of the record, if there is one, whose reading is counted.
+    pub fn new(disk: Forgetful, mut random: Random, plan: &Plan, record: Option<&Path>) -> Self {
+        let lives = |&until_kill: &Option<Until>| Life::Lives {
+            until_kill,
+            waits_for: None,
+        };
         Self {
             state: Mutex::new(State {
                 disk,
@@ -86,9 +144,10 @@ impl Turns {
                 turn: random.below(plan.kills.len()),
                 random,
                 workers: plan.kills.iter().map(lives).collect(),
+                locks: Vec::new(),
                 until_crash: plan.crash,
                 lost: None,
-                record: record.to_owned(),
+                record: record.map(Path::to_owned),
                 take_ups: 0,
                 kills: 0,
             }),
@@ -139,7 +198,7 @@ impl State {
             return Call::Crashes;
         }
         let is_killed = match &mut self.workers[self.turn] {
-            Life::Lives { until_kill } => is_next(until_kill, of_names),
+            Life::Lives { until_kill, .. } => is_next(until_kill, of_names),
             _ => false,
         };
         match is_killed {
@@ -151,24 +210,53 @@ impl State {
     /// The worker that has the turn is killed, or the power is cut.
     fn cut_off(&mut self, call: Call) {
         self.workers[self.turn] = Life::CutOff;
+        self.let_go(self.turn);
         match call {
             Call::Crashes => self.lost = Some(self.disk.crash(&mut self.random)),
             _ => self.kills += 1,
         }
     }
 
-    /// Lets somebody have the turn who lives.
+    /// Lets somebody have the turn who can go on.
     fn hand_on(&mut self) {
-        let lives = |life: &Life| matches!(life, Life::Lives { .. });
-        if lives(&self.workers[self.turn]) && !self.random.one_in(self.stays) {
+        if self.can_go_on(self.turn) && !self.random.one_in(self.stays) {
             return;
         }
-        let living: Vec<usize> = (0..self.workers.len())
-            .filter(|&worker| lives(&self.workers[worker]))
+        let ready: Vec<usize> = (0..self.workers.len())
+            .filter(|&worker| self.can_go_on(worker))
             .collect();
-        if !living.is_empty() {
-            self.turn = *self.random.pick(&living);
+        if !ready.is_empty() {
+            self.turn = *self.random.pick(&ready);
         }
+    }
+
+    /// Whether a worker lives, and waits for no lock that somebody has.
+    fn can_go_on(&self, worker: usize) -> bool {
+        match self.workers[worker] {
+            Life::Lives { waits_for, .. } => waits_for.map_or(true, |file| self.is_free(file)),
+            _ => false,
+        }
+    }
+
+    fn is_free(&self, file: usize) -> bool {
+        self.locks.iter().all(|&(locked, _)| locked != file)
+    }
+
+    /// Gives the lock of a file to the worker that has the turn, or lets the worker wait for it: whether the worker has it.
+    fn take_lock(&mut self, file: usize) -> bool {
+        let is_free = self.is_free(file);
+        if is_free {
+            self.locks.push((file, self.turn));
+        }
+        if let Life::Lives { waits_for, .. } = &mut self.workers[self.turn] {
+            *waits_for = (!is_free).then_some(file);
+        }
+        is_free
+    }
+
+    /// A worker has no lock any more.
+    fn let_go(&mut self, worker: usize) {
+        self.locks.retain(|&(_, holder)| holder != worker);
     }
 }
 
@@ -204,6 +292,7 @@ impl<'a> Seat<'a> {
             None => return self.turns.locked().workers[self.worker] != Life::CutOff,
         };
         state.workers[self.worker] = Life::Ended;
+        state.let_go(self.worker);
         self.turns.hand_on(state);
         true
     }
@@ -214,6 +303,15 @@ impl<'a> Seat<'a> {
         of_names: bool,
         act: impl FnOnce(&mut Forgetful, usize) -> io::Result<T>,
     ) -> io::Result<T> {
+        self.in_turn(of_names, |state, part| act(&mut state.disk, part))
+    }
+
+    /// The same of a call that asks for more than the disk.
+    fn in_turn<T>(
+        &self,
+        of_names: bool,
+        act: impl FnOnce(&mut State, usize) -> io::Result<T>,
+    ) -> io::Result<T> {
         let mut guard = match self.turns.turn_of(self.worker) {
             Some(state) => state,
             None => {
@@ -223,10 +321,11 @@ impl<'a> Seat<'a> {
         };
         let state = &mut *guard;
         let done = match state.next_call(of_names) {
-            Call::GoesOn => act(&mut state.disk, WHOLE),
+            Call::GoesOn => act(state, WHOLE),
             cut => {
+                let part = state.random.below(WHOLE + 1);
                 // nobody is there to take the answer
-                let _ = act(&mut state.disk, state.random.below(WHOLE + 1));
+                let _ = act(state, part);
                 state.cut_off(cut);
                 Err(cut_off())
             }
@@ -247,11 +346,11 @@ impl<'a> Seat<'a> {
 }
 
 /// Of a call that has no parts.
-fn wholly<T>(
-    act: impl FnOnce(&mut Forgetful) -> io::Result<T>,
-) -> impl FnOnce(&mut Forgetful, usize) -> io::Result<T> {
-    move |disk, part| match part > WHOLE / 2 {
-        true => act(disk),
+fn wholly<S, T>(
+    act: impl FnOnce(&mut S) -> io::Result<T>,
+) -> impl FnOnce(&mut S, usize) -> io::Result<T> {
+    move |on, part| match part > WHOLE / 2 {
+        true => act(on),
         false => Err(cut_off()),
     }
 }
@@ -260,9 +359,25 @@ fn cut_off() -> io::Error {
     io::Error::new(io::ErrorKind::Other, "the worker is cut off")
 }
 
-impl Disk for Seat<'_> {
+/// A lock that a worker has until it lets go.
+pub struct Held<'a> {
+    turns: &'a Turns,
+    worker: usize,
+}
+
+impl Drop for Held<'_> {
+    fn drop(&mut self) {
+        // one that is cut off has no lock any more
+        if let Some(mut state) = self.turns.turn_of(self.worker) {
+            state.let_go(self.worker);
+            self.turns.hand_on(state);
+        }
+    }
+}
+
+impl<'a> Disk for Seat<'a> {
     type File = usize;
-    type Lock = ();
+    type Lock = Held<'a>;
 
     fn open(&self, path: &Path) -> io::Result<usize> {
         self.call(|disk| disk.open(path))
@@ -308,7 +423,7 @@ impl Disk for Seat<'_> {
         let begun = |(record, _): (Record, u64)| {
             (1..record.header().n_pixels()).contains(&record.pixels_done())
         };
-        if path == state.record && saved::from_bytes(&bytes).map_or(false, begun) {
+        if Some(path) == state.record.as_deref() && saved::from_bytes(&bytes).map_or(false, begun) {
             state.take_ups += 1;
         }
         Ok(bytes)
@@ -333,7 +448,51 @@ impl Disk for Seat<'_> {
         })
     }
 
-    fn lock(&self, _: &Path) -> io::Result<()> {
-        Ok(())
+    fn lock(&self, path: &Path) -> io::Result<Held<'a>> {
+        let has_it = || {
+            self.in_turn(
+                false,
+                wholly(|state: &mut State| {
+                    let file = state.disk.open_or_make(path)?;
+                    Ok(state.take_lock(file))
+                }),
+            )
+        };
+        // a worker that waits tries again when it next has the turn
+        while !has_it()? {}
+        Ok(Held {
+            turns: self.turns,
+            worker: self.worker,
+        })
     }
+}
+
+/// Lets workers do these jobs at once: for each that came to its end what it answered, or the status of its failure.
+pub fn at_once<J: Sync, T: Send>(
+    turns: &Turns,
+    jobs: &[J],
+    work: impl Fn(&Seat, &J) -> Result<T, Failure> + Sync,
+) -> Vec<Option<Result<T, u8>>> {
+    let one = |worker: usize| {
+        let seat = Seat::new(turns, worker);
+        let ended = catch_unwind(AssertUnwindSafe(|| work(&seat, &jobs[worker])));
+        let answer = match ended {
+            Ok(answer) => answer.map_err(|failure| failure.status()),
+            Err(_) => Err(PANICKED),
+        };
+        seat.leave().then_some(answer)
+    };
+    if jobs.len() == 1 {
+        return vec![one(0)];
+    }
+    thread::scope(|scope| {
+        let one = &one;
+        let threads: Vec<_> = (0..jobs.len())
+            .map(|worker| scope.spawn(move || one(worker)))
+            .collect();
+        let ended = threads.into_iter().map(|thread| thread.join());
+        ended
+            .map(|answer| answer.expect("it catches panics"))
+            .collect()
+    })
 }

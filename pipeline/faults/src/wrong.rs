@@ -1,38 +1,58 @@
 //! Wrong workers, made of the right one by a disk that does its calls otherwise. A test that finds no fault with them is none.
-use crate::turns::Seat;
+use crate::turns::{Held, Seat};
+use pivotshade::Table;
 use std::cell::Cell;
 use std::ffi::OsString;
 use std::io;
 use std::path::{Path, PathBuf};
 use worker::disk::Disk;
+use worker::failure::Failure;
+use worker::table;
 
 /// What a worker does wrong.
 #[derive(Clone, Copy, PartialEq)]
 pub enum Wrong {
     SavesFirst,
-    RecordUnflushed,
+    RenamedUnflushed,
     RenameUnflushed,
     FolderUnflushed,
     NothingFlushed,
+    AlreadyUnflushed,
+    Unlocked,
+    InPlace,
+    MarksFirst,
 }
 
 impl Wrong {
-    pub const ALL: [Self; 5] = [
+    pub const OF_A_DECODE: [Self; 5] = [
         Self::SavesFirst,
-        Self::RecordUnflushed,
+        Self::RenamedUnflushed,
         Self::RenameUnflushed,
         Self::FolderUnflushed,
         Self::NothingFlushed,
+    ];
+
+    pub const OF_A_COUNT: [Self; 6] = [
+        Self::RenamedUnflushed,
+        Self::RenameUnflushed,
+        Self::AlreadyUnflushed,
+        Self::Unlocked,
+        Self::InPlace,
+        Self::MarksFirst,
     ];
 
     /// A worker that does so, in words.
     pub fn words(self) -> &'static str {
         match self {
             Self::SavesFirst => "saves its record before it flushes the output",
-            Self::RecordUnflushed => "does not flush the record that it renames",
-            Self::RenameUnflushed => "does not flush the folder after the record's rename",
+            Self::RenamedUnflushed => "does not flush the file that it renames",
+            Self::RenameUnflushed => "does not flush the folder after the rename",
             Self::FolderUnflushed => "flushes no folder",
             Self::NothingFlushed => "flushes nothing",
+            Self::AlreadyUnflushed => "says 'counted already' and does not flush the folder",
+            Self::Unlocked => "takes no lock",
+            Self::InPlace => "writes the table in its place",
+            Self::MarksFirst => "marks the hour before it adds the rain",
         }
     }
 }
@@ -41,7 +61,8 @@ impl Wrong {
 pub struct WrongDisk<'a> {
     seat: &'a Seat<'a>,
     wrong: Wrong,
-    output: PathBuf,
+    /// A decode's output.
+    output: Option<PathBuf>,
     opened_output: Cell<Option<usize>>,
     /// The output, where its flush waits for the record's.
     held_back: Cell<Option<usize>>,
@@ -50,11 +71,11 @@ pub struct WrongDisk<'a> {
 }
 
 impl<'a> WrongDisk<'a> {
-    pub fn new(seat: &'a Seat<'a>, wrong: Wrong, output: &Path) -> Self {
+    pub fn new(seat: &'a Seat<'a>, wrong: Wrong, output: Option<&Path>) -> Self {
         Self {
             seat,
             wrong,
-            output: output.to_owned(),
+            output: output.map(Path::to_owned),
             opened_output: Cell::new(None),
             held_back: Cell::new(None),
             has_renamed: Cell::new(false),
@@ -62,22 +83,46 @@ impl<'a> WrongDisk<'a> {
     }
 
     fn opened(&self, path: &Path, file: usize) -> usize {
-        if path == self.output {
+        if Some(path) == self.output.as_deref() {
             self.opened_output.set(Some(file));
         }
         file
     }
+
+    /// Writes the bytes of one file to another one.
+    fn write_in_place(&self, from: &Path, to: &Path) -> io::Result<()> {
+        let bytes = self.seat.read(from)?;
+        let file = self.seat.open_or_make(to)?;
+        self.seat.write_at(&file, &bytes, 0)?;
+        self.seat.flush(&file)?;
+        self.seat.remove(from)
+    }
+
+    /// Replaces a table by one that has the marks of another one, and its own totals still.
+    fn mark_first(&self, marked: &Path, path: &Path) -> io::Result<()> {
+        let marked = table::from_bytes(&self.seat.read(marked)?, marked).map_err(told)?;
+        let totals = match table::read(self.seat, path).map_err(told)? {
+            Some(table) => table.totals().to_vec(),
+            None => vec![0; marked.totals().len()],
+        };
+        let first = Table::from_parts(totals, *marked.marks());
+        table::write(self.seat, path, &first).map_err(told)
+    }
 }
 
-impl Disk for WrongDisk<'_> {
+fn told(failure: Failure) -> io::Error {
+    io::Error::new(io::ErrorKind::Other, failure.to_string())
+}
+
+impl<'a> Disk for WrongDisk<'a> {
     type File = usize;
-    type Lock = ();
+    type Lock = Option<Held<'a>>;
 
     fn flush(&self, file: &usize) -> io::Result<()> {
         let is_output = self.opened_output.get() == Some(*file);
         match self.wrong {
             Wrong::SavesFirst if is_output => self.held_back.set(Some(*file)),
-            Wrong::RecordUnflushed if !is_output => {}
+            Wrong::RenamedUnflushed if !is_output => {}
             Wrong::NothingFlushed => {}
             _ => self.seat.flush(file)?,
         }
@@ -89,6 +134,7 @@ impl Disk for WrongDisk<'_> {
         match self.wrong {
             Wrong::FolderUnflushed | Wrong::NothingFlushed => return Ok(()),
             Wrong::RenameUnflushed if has_renamed => return Ok(()),
+            Wrong::AlreadyUnflushed if !has_renamed => return Ok(()),
             _ => {}
         }
         self.seat.flush_folder(folder)?;
@@ -128,6 +174,11 @@ impl Disk for WrongDisk<'_> {
 
     fn rename(&self, from: &Path, to: &Path) -> io::Result<()> {
         self.has_renamed.set(true);
+        match self.wrong {
+            Wrong::InPlace => return self.write_in_place(from, to),
+            Wrong::MarksFirst => self.mark_first(from, to)?,
+            _ => {}
+        }
         self.seat.rename(from, to)
     }
 
@@ -139,7 +190,10 @@ impl Disk for WrongDisk<'_> {
         self.seat.names(folder)
     }
 
-    fn lock(&self, path: &Path) -> io::Result<()> {
-        self.seat.lock(path)
+    fn lock(&self, path: &Path) -> io::Result<Self::Lock> {
+        match self.wrong {
+            Wrong::Unlocked => Ok(None),
+            _ => self.seat.lock(path).map(Some),
+        }
     }
 }
