@@ -91,8 +91,8 @@ fn tried(given: &Given) -> Result<(), String> {
         false => (1000, 10_000, 12),
     };
     let (month_kills, month_losses) = match given.is_long {
-        true => (3000, 60_000),
-        false => (300, 10_000),
+        true => (3000, 10_000),
+        false => (300, 1000),
     };
     let bench = |name, is_apart| Bench::new(&given.worker, &given.folder.join(name), is_apart);
     let benches = [bench("together", false)?, bench("apart", true)?];

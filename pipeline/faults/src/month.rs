@@ -154,17 +154,20 @@ impl Queue {
         several: usize,
     ) -> Vec<usize> {
         let hour_of = |message: usize| month.messages[message].hour;
-        let may_come = |message: usize| has_table || !month.needs_a_table(message);
+        let may_come = |message: &usize| has_table || !month.needs_a_table(*message);
         let mut taken: Vec<usize> = Vec::new();
         while taken.len() < several {
-            let is_of_one_hour = taken.last().is_some() && random.one_in(2);
-            let like = |message: usize| taken.iter().any(|&one| hour_of(one) == hour_of(message));
-            let last = |is_wanted: &dyn Fn(usize) -> bool| {
-                let wanted = |&message: &usize| may_come(message) && is_wanted(message);
-                self.0.iter().rposition(wanted)
+            let is_like = |&message: &usize| {
+                let mut hours = taken.iter().map(|&one| hour_of(one));
+                hours.any(|hour| hour == hour_of(message))
             };
-            let of_one_hour = is_of_one_hour.then(|| last(&like)).flatten();
-            match of_one_hour.or_else(|| last(&|_| true)) {
+            let waiting = || self.0.iter();
+            let like = waiting().rposition(|message| may_come(message) && is_like(message));
+            let place = match like {
+                Some(_) if random.one_in(2) => like,
+                _ => waiting().rposition(may_come),
+            };
+            match place {
                 Some(place) => taken.push(self.0.remove(place)),
                 None => break,
             }

@@ -21,7 +21,7 @@ pub struct MonthKills {
 /// Widths, heights and hours of the months: a larger table takes longer to write and to flush.
 const FIELDS: [(usize, usize, usize); 5] = [
     (5, 4, 24),
-    (400, 300, 10),
+    (700, 500, 6),
     (60, 50, 20),
     (200, 160, 16),
     (13, 11, 24),
