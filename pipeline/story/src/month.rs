@@ -8,14 +8,14 @@ use crate::rain::{packed, Map};
 use crate::random::Random;
 use crate::words::{encoded, grouped, millimetres, say, shown};
 use crate::workers::{Counters, Ended, Started};
-use pivotshade::encode_to_vec;
+use pivotshade::{encode_to_vec, Table};
 use std::mem::size_of;
 use std::path::{Path, PathBuf};
 use std::thread::sleep;
 use std::time::Duration;
 
 /// The month's hours, and the cells in a row and the rows of each.
-const HOURS: usize = 744;
+const HOURS: usize = Table::HOURS;
 const WIDTH: usize = 120;
 const HEIGHT: usize = 80;
 /// What decides the repeats, the order, and the moments of the kills.

@@ -75,7 +75,7 @@ impl Queue {
 mod tests {
     use super::*;
 
-    const HOURS: usize = 744;
+    const HOURS: usize = pivotshade::Table::HOURS;
 
     fn delivered(seed: u64) -> Vec<Vec<usize>> {
         let mut queue = Queue::new(HOURS, seed);
