@@ -66,7 +66,8 @@ withFour Rgba used rain = cells used rain
 unfoldable pub frameFrom : HeaderRead → Answer → List ℕ → Frame
 frameFrom header (refused e) bytes = unread e
 frameFrom (header-read.Refused e) (done size used) bytes = unread e
-frameFrom (header-read.Ok header) (done size used) bytes = withFour (header .channels) used (cellsOf (pixelCount header) bytes)
+frameFrom (header-read.Ok header) (done size used) bytes =
+    withFour (header .channels) used (cellsOf (pixelCount header) bytes)
 
 -- a message wholly decoded to four channels into a buffer of `room` bytes
 unfoldable pub frameOf : List ℕ → ℕ → Frame
@@ -119,12 +120,14 @@ counting t c =
 -- what stands in the frame's buffer then: as it was after 19 and 'counted already', else what the decode to four leaves
 unfoldable pub frameAfter : Table → ℕ → List ℕ → List ℕ → List ℕ
 frameAfter t hour message before =
-    cond (ltb hour hoursOfMonth && not (isMarked t hour)) (writtenOver (decoding message 4 (length before) .bytes) before) before
+    cond (ltb hour hoursOfMonth && not (isMarked t hour)) (writtenOver (decoding message 4 (length before) .bytes) before)
+    before
 
 -- What a call leaves, given hour, message, a frame's buffer that held `before` and the totals and marks of a table:
 -- its answer, the buffer, the totals and the marks.
 abbrev pub Counts : ℕ → List ℕ → List ℕ → List ℕ → List ℕ → Counted → List ℕ → List ℕ → List ℕ → Type 0
 Counts hour message before totals marks r after totals′ marks′ =
-    (record { answer = r; table = record { totals = totals′; marks = marks′ } }
-    ≡ counting (record { totals = totals; marks = marks }) (record { hour = hour; message = message; room = length before }))
-    × (after ≡ frameAfter (record { totals = totals; marks = marks }) hour message before)
+    let table : Table = record { totals = totals; marks = marks } in
+    let call : Call = record { hour = hour; message = message; room = length before } in
+    (record { answer = r; table = record { totals = totals′; marks = marks′ } } ≡ counting table call)
+    × (after ≡ frameAfter table hour message before)

@@ -1,5 +1,6 @@
 //! The ledger of a month: by which frame each hour is in the table, and the totals that this makes, in numbers of 128 bits. A table is held to it.
 use crate::month::{Holds, Month};
+use pivotshade::Table;
 use std::collections::{BTreeMap, BTreeSet};
 use std::path::Path;
 use worker::table;
@@ -106,29 +107,23 @@ impl Ledger {
     /// Whether a table is a right one, at any moment: whole or not there; each hour of before in it, but for what a crash may take; each other hour
     /// one that a worker was given; and each total the sum of the hours' frames, in exactly one way.
     pub fn look(&mut self, table: Option<&[u8]>, has_crashed: bool) -> Result<(), String> {
-        let (marks, totals) = match table {
-            None => (Vec::new(), None),
-            Some(bytes) => {
-                let table = table::from_bytes(bytes, Path::new("table"))
-                    .map_err(|failure| failure.to_string())?;
-                (table.marks().to_vec(), Some(table.totals().to_vec()))
-            }
+        let table = match table {
+            None => return self.check_lasts(&BTreeSet::new(), has_crashed),
+            Some(bytes) => table::from_bytes(bytes, Path::new("table"))
+                .map_err(|failure| failure.to_string())?,
         };
-        if let Some(mark) = marks.iter().find(|&&mark| mark > 1) {
+        if let Some(mark) = table.marks().iter().find(|&&mark| mark > 1) {
             return Err(format!("a mark is {mark}"));
         }
-        let marked = (0..).zip(&marks).filter(|(_, &mark)| mark == 1);
-        let marked: BTreeSet<u64> = marked.map(|(hour, _)| hour).collect();
+        let hours = 0..Table::HOURS as u64;
+        let marked: BTreeSet<u64> = hours.filter(|&hour| table.is_marked(hour)).collect();
+        let cells = table.totals().len();
+        if marked.is_empty() || cells != self.month.cells {
+            let hours = marked.len();
+            return Err(format!("the table has {hours} hours and {cells} cells"));
+        }
         self.check_lasts(&marked, has_crashed)?;
-        let totals = match totals {
-            None => return Ok(()),
-            Some(_) if marked.is_empty() => return Err("there is a table with no hour".into()),
-            Some(totals) if totals.len() != self.month.cells => {
-                return Err(format!("the table has {} cells", totals.len()))
-            }
-            Some(totals) => totals,
-        };
-        for (hour, message) in self.found(&marked, &totals)? {
+        for (hour, message) in self.found(&marked, table.totals())? {
             self.held.insert(hour, message);
             add(&mut self.totals, self.month.rain(message), |a, b| a + b);
         }
