@@ -2,7 +2,7 @@
 -- Assumes nothing.
 use mathlib.Core.Bool.{Bool, true, false, cond}
 use mathlib.Core.List.{List, [], _∷_, _++_}
-use mathlib.Core.Path.{_≡_, refl, sym, _∙_, ap}
+use mathlib.Core.Path.{_≡_, refl}
 use Prim.Native.Nat.{ℕ, zero, suc, _+_, _-_, _*_, _%_, _≤_, _<_}
 use native.Mathlib.Decide.{ℕ-discrete, decLt}
 use native.Mathlib.Omega.{arith}
@@ -20,7 +20,7 @@ use Rattle.header.specs.declared.HeaderRead.{HeaderRead}
 use Rattle.header.specs.declared.HeaderRead.the-variants as header-read
 use Rattle.header.specs.Header.{pixelCount, headerOf}
 use Rattle.rules.specs.Bytes.{repeated}
-use Rattle.rules.specs.Chunk.{Chunk, INDEX, Found, cut, chunk, needing, chunkFrom, chunkAt, colourOf, timesOf}
+use Rattle.rules.specs.Chunk.{Chunk, Found, cut, chunk, needing, chunkFrom, chunkAt, colourOf, timesOf}
 use Rattle.rules.specs.Reading.{Place, Answer, done, refused, Move, more, end, Reading, silent, readOn, closing, startPlace, sizeWanted, pixelsBrought, pixelAfter, placeAfter, bytesOf, moveBy, move, reading, remaining, readingInto, afterWanted, afterHeader, wholeReading}
 use Rattle.rules.specs.Decode.{decoder, decoderKeeps, decoderReadsRgba, decoding}
 use Rattle.totals.proofs.Sums.{either}

@@ -1,6 +1,6 @@
 -- Document 02's Q-13, one call: the table, the frame's cells, what is added, and the order of refusals.
 -- The order reads from the bottom up: the last definition of it makes the first test.
-use mathlib.Core.Bool.{Bool, true, false, cond, not, _&&_}
+use mathlib.Core.Bool.{Bool, cond, not, _&&_}
 use mathlib.Core.List.{List, [], _∷_}
 use mathlib.Core.Option.{Option, none, some, Option·map}
 use mathlib.Core.Path.{_≡_}

@@ -7,8 +7,6 @@ use Prim.Native.Nat.{ℕ}
 use native.Mathlib.Omega.{arith}
 use borrow.Author.Needs.{needs}
 use lib.ListN.{length, set}
-use Rattle.rules.specs.Bytes.{writtenOver}
-use Rattle.rules.specs.Decode.{decoding}
 use Rattle.totals.specs.declared.Counted.the-variants.{Done}
 use Rattle.totals.specs.declared.FrameRead.the-variants as frame-read
 use Rattle.totals.specs.Counting.{Table, Frame, frameOf, fitting, firstPast, Outcome, countingFrame, counting, frameAfter}

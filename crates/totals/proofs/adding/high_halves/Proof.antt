@@ -1,9 +1,8 @@
 -- `totals::adding::high_halves` meets its contract: the sum so far is at least each high half passed.
 -- Assumes nothing.
-use Prim.Native.Nat.{ℕ, _+_, _*_, _-_, _/_, _≤_, _<_}
+use Prim.Native.Nat.{_+_, _*_, _-_, _≤_, _<_}
 use native.Mathlib.Omega.{arith}
 use borrow.Author.Count.{below-more}
-use lib.ListN.{length, getD}
 use Rattle.totals.specs.Framing.{HighBelow}
 use Rattle.totals.proofs.adding.high_halves.Statement.{statement}
 use Rattle.totals.proofs.adding.high_halves.Tie as tie
