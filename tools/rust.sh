@@ -14,7 +14,13 @@ rust_packages=(librust-bytemuck-dev)
 c_packages=(gcc libc6-dev)
 emulation_packages=(cargo rustc libstd-rust-dev:amd64 gcc-x86-64-linux-gnu libc6-dev-amd64-cross qemu-user)
 compare_packages=("${rust_packages[@]}")
-[ "$(uname -m)" != aarch64 ] || compare_packages+=("${emulation_packages[@]}")
+count_packages=("${rust_packages[@]}" "${c_packages[@]}")
+if [ "$(uname -m)" = aarch64 ]; then
+    compare_packages+=("${emulation_packages[@]}")
+    count_packages+=("${emulation_packages[@]}")
+else
+    count_packages+=(cargo rustc qemu-user)
+fi
 
 # quietly COMMAND...: what it prints is shown only where it fails
 quietly() {
@@ -62,13 +68,16 @@ find_rust() {
 }
 has_bytemuck() { compgen -G '/usr/share/cargo/registry/bytemuck-*' >/dev/null; }
 
+# renew FROM TO: copies a file or a folder where the two differ: cargo goes by times, and builds anew where something changed, and only there
+renew() { diff -rq "$1" "$2" >/dev/null 2>&1 || { rm -rf "$2" && cp -R "$1" "$2"; }; }
+
 # copy_crate FROM TO: a copy of the crate FROM that names the Rust's folder, with the Rust's own settings for cargo
 copy_crate() {
     local from=$1 to=$2 path
     mkdir -p "$to"
-    rm -rf "$to/src" "$to/.cargo"
-    cp -R "$from/src" "$to/src"
-    [ ! -f "$from/build.rs" ] || cp "$from/build.rs" "$to/build.rs"
+    rm -rf "$to/.cargo"
+    renew "$from/src" "$to/src"
+    [ ! -f "$from/build.rs" ] || renew "$from/build.rs" "$to/build.rs"
     path=${oracle//\\/\\\\}
     path=${path//\"/\\\"}
     {
@@ -131,10 +140,12 @@ crates_of_qoi() {
 
 # build_host FOLDER NAME CARGO...: builds the host in target/host/NAME, with the archive libqoi.a of target/FOLDER, by CARGO with its options
 build_host() {
-    local archive=$root/target/$1 work=$root/target/host/$2
+    local archive=$root/target/$1/libqoi.a work=$root/target/host/$2
     shift 2
     copy_crate "$root/host" "$work"
-    (cd "$work" && PIVOTSHADE_ARCHIVE=$archive CARGO_TARGET_DIR=$work/build "$1" build --release --quiet "${@:2}")
+    mkdir -p "$work/archive"
+    renew "$archive" "$work/archive/libqoi.a"
+    (cd "$work" && PIVOTSHADE_ARCHIVE=$work/archive CARGO_TARGET_DIR=$work/build "$1" build --release --quiet "${@:2}")
 }
 
 # build_program NAME OPTION...: builds the program of pipeline/NAME, with the archive of target/native, to target/worker/release/NAME
@@ -144,4 +155,25 @@ build_program() {
         export PIVOTSHADE_ARCHIVE=$root/target/native CARGO_TARGET_DIR=$root/target/worker
         quietly cargo build --release --offline "${@:2}"
     )
+}
+
+# find_emulation: whether an Arm machine has, or can be given, what builds and runs a host for x86-64
+emulated_target=x86_64-unknown-linux-gnu
+has_emulation() {
+    [ -x /usr/bin/cargo ] && [ -x /usr/bin/rustc ] && [ -d /usr/lib/rustlib/$emulated_target/lib ] && [ -d /usr/x86_64-linux-gnu/include ] &&
+        command -v x86_64-linux-gnu-gcc >/dev/null && command -v qemu-x86_64 >/dev/null
+}
+add_emulation() {
+    may_install || return
+    echo "adding dpkg's foreign architecture amd64" >&2
+    dpkg --add-architecture amd64 && quietly apt-get update && add_packages "${emulation_packages[@]}"
+}
+find_emulation() { has_emulation || { add_emulation && has_emulation; }; }
+
+# emulated_host: proves and compiles the x86-64 archive on an Arm machine and builds the host with it; sets `emulated`, the host
+emulated_host() {
+    quietly "$root/tools/native-archive" x86_64 || return
+    RUSTC=/usr/bin/rustc CARGO_TARGET_X86_64_UNKNOWN_LINUX_GNU_LINKER=x86_64-linux-gnu-gcc \
+        build_host x86_64 emulated /usr/bin/cargo --target $emulated_target || return
+    emulated=$root/target/host/emulated/build/$emulated_target/release/host
 }
