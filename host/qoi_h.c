@@ -1,4 +1,4 @@
-/* qoi.h of Debian's libqoi-dev as an object that ./bench compiles, for the host to time its encode. */
+/* qoi.h of Debian's libqoi-dev as an object that ./bench compiles, for the host to time its decode and encode. */
 #define QOI_IMPLEMENTATION
 #define QOI_NO_STDIO
 #include <qoi.h>

@@ -1,5 +1,6 @@
 // The host of the port's exported functions: `host compare` holds them to crate qoi 0.4.1 on the same inputs, `host peers` to other programs by
-// the files that they write and read, and `host bench` times them against crate qoi.
+// the files that they write and read, `host bench` times them against crate qoi by programs that are `host race`, and `host repeat` does one call many
+// times, for its instructions to be counted.
 mod answer;
 mod bench;
 mod budgets;
@@ -17,14 +18,19 @@ mod oracle;
 mod output;
 mod peers;
 mod pictures;
+mod places;
 mod port;
 #[cfg(feature = "qoi_h")]
 mod qoi_h;
+mod race;
 mod random;
 mod record;
 mod records;
 mod refusal;
+mod repeat;
+mod samples;
 mod sha256;
+mod sizes;
 mod strict;
 mod stricts;
 mod table;
@@ -37,7 +43,8 @@ use std::process::ExitCode;
 
 fn usage() -> ExitCode {
     eprintln!(
-        "usage: host compare CASES SEED IMAGES | host peers FOLDER IMAGES | host bench IMAGES [encode | strict | count]"
+        "usage: host compare CASES SEED IMAGES | host peers FOLDER IMAGES | host bench IMAGES all|encode|strict|count HOST... | \
+         host race IMAGES | host repeat ours|rust decode|encode CHANNELS TIMES FILE"
     );
     ExitCode::from(2)
 }
@@ -51,10 +58,16 @@ fn main() -> ExitCode {
             _ => usage(),
         },
         ["peers", folder, images] => peers::run(&PathBuf::from(folder), &PathBuf::from(images)),
-        ["bench", folder] => bench::run(&PathBuf::from(folder), None),
-        ["bench", folder, only @ ("encode" | "strict" | "count")] => {
-            bench::run(&PathBuf::from(folder), Some(only))
+        ["bench", folder, only @ ("all" | "encode" | "strict" | "count"), ref programs @ ..] => {
+            bench::run(&PathBuf::from(folder), only, programs)
         }
+        ["race", folder] => places::serve(&PathBuf::from(folder)),
+        ["repeat", who, what, channels, times, file] => match (channels.parse(), times.parse()) {
+            (Ok(channels), Ok(times)) => {
+                repeat::run(who, what, channels, times, &PathBuf::from(file))
+            }
+            _ => usage(),
+        },
         _ => usage(),
     }
 }

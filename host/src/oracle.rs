@@ -39,6 +39,11 @@ pub fn decode(message: &[u8], wanted: u64, out: &mut [u8]) -> Answer {
     }
 }
 
+/// Where the decode's code lies.
+pub fn place() -> usize {
+    decode as *const () as usize
+}
+
 /// How many bytes the decode needs, where the header is good.
 pub fn needed(message: &[u8], wanted: u64) -> Option<u64> {
     let header = qoi::decode_header(message).ok()?;

@@ -133,7 +133,7 @@ pub fn textured(random: &mut Random, most: usize) -> Picture {
     })
 }
 
-const WIDTH: usize = 1024;
+pub const WIDTH: usize = 1024;
 const HEIGHT: usize = 512;
 
 /// An hour's rain, or a part of it: showers with dry land between them, a number to a pixel, its high bytes first.
@@ -157,6 +157,16 @@ fn showers(
 
 fn rain(channels: usize) -> Picture {
     showers(&mut Random::new(1), (0, 0), (WIDTH, HEIGHT), channels)
+}
+
+/// The upper left corner of a rain field.
+pub fn corner(side: usize, channels: usize) -> Picture {
+    showers(&mut Random::new(1), (0, 0), (side, side), channels)
+}
+
+/// `height` rows of a rain field of any height, from the row `top` on.
+pub fn rows_of_rain(random: &mut Random, top: usize, height: usize) -> Picture {
+    showers(random, (0, top), (WIDTH, height), 4)
 }
 
 /// A part of a rain field with at most `most` pixels.

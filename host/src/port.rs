@@ -74,6 +74,11 @@ pub const HOURS: usize = 744;
 /// What the figures hold before a call: each of the four must be written, the zeros too.
 const UNWRITTEN: [u64; 4] = [0x5555_5555_5555_5555; 4];
 
+/// Where the decode's code lies.
+pub fn place() -> usize {
+    pivotshade_decode as *const () as usize
+}
+
 /// Width, height, channels and colour space.
 pub fn header(message: &[u8]) -> Answer {
     let mut figures = UNWRITTEN;
