@@ -8,6 +8,7 @@ use Prim.Native.Nat.{ℕ, _+_, _-_, _*_}
 use lib.Dec.{T, leb, leb→le}
 use lib.ListN.{length}
 use borrow.Author.Tests.{not-false}
+use native.Mathlib.Omega.{arith}
 use Rattle.pixel.specs.declared.types.Channels.{Channels}
 use Rattle.pixel.specs.Types.{channelsNumber}
 use Rattle.header.specs.declared.Header.{Header}
@@ -20,7 +21,8 @@ use Rattle.walk.specs.Asked.{Fits}
 -- input that passes lies within what the header says
 pub fitted :
     (header : Header) (wanted : ℕ) (message : List ℕ) (steps : ℕ) (place : Place) (out : List ℕ)
-    → T (fits header wanted (length message) steps (place .at) (place .pixel) (length out)) → Fits header wanted message steps place out
+    → T (fits header wanted (length message) steps (place .at) (place .pixel) (length out))
+    → Fits header wanted message (place .pixel) steps place out
 unfolding fits
 fitted header wanted message steps place out t =
     let second = both (dimensionsFit (header .width) (header .height)) _ t .1 in
@@ -30,6 +32,7 @@ fitted header wanted message steps place out t =
     record {
       fit = both (dimensionsFit (header .width) (header .height)) _ t .0;
       inside = leb→le (place .at) (length message) (both (leb (place .at) (length message)) _ second .0);
+      after = omega arith;
       within = leb→le (place .pixel) (pixelCount header) (both (leb (place .pixel) (pixelCount header)) _ third .0);
       few-steps = leb→le steps (pixelCount header + 1) (fifth .0);
       room = leb→le ((pixelCount header - place .pixel) * wanted) (length out) (fifth .1);
@@ -39,8 +42,8 @@ fitted header wanted message steps place out t =
 pub allowed :
     (header : Header) (w w′ : Channels) (message : List ℕ) (steps : ℕ) (place : Place) (out : List ℕ) (passed : Bool)
     → passed ≡ fits header (channelsNumber w) (length message) steps (place .at) (place .pixel) (length out)
-    → not passed ≡ false → w ≡ w′ → Fits header (channelsNumber w′) message steps place out
+    → not passed ≡ false → w ≡ w′ → Fits header (channelsNumber w′) message (place .pixel) steps place out
 allowed header w w′ message steps place out passed e f same =
     let test : true ≡ fits header (channelsNumber w) (length message) steps (place .at) (place .pixel) (length out) = sym (not-false passed f) ∙ e in
-    subst (λ (v : Channels). Fits header (channelsNumber v) message steps place out) same
+    subst (λ (v : Channels). Fits header (channelsNumber v) message (place .pixel) steps place out) same
     (fitted header (channelsNumber w) message steps place out (subst T test tt))

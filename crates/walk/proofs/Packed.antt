@@ -1,6 +1,6 @@
--- A packed pixel whose alpha is kept apart, and what a chunk of colour makes of both.
+-- A packed pixel and its alpha, taken out of it: what a chunk of colour makes of both.
 -- Assumes nothing.
-use mathlib.Core.Path.{_≡_, refl, sym, _∙_, ap}
+use mathlib.Core.Path.{_≡_, refl, _∙_, ap}
 use mathlib.Core.List.{[]}
 use Prim.Native.Nat.{ℕ, _/_, _%_}
 use Rattle.pixel.specs.declared.Pixel.{Pixel}
@@ -41,15 +41,10 @@ made-alpha p Stuck = refl
 module _ (p a q a′ : ℕ) (c : Colour) (kept : a ≡ alphaIn p)
     (leaves : a′ ≡ alpha (colourOf [] (withAlpha clearPixel a) (chunkOf c)))
     (made : unpacked q ≡ withAlpha (colourOf [] (unpacked p) (chunkOf c)) a′) where
-  -- the alpha that is kept apart is that of the pixel made
+  -- the alpha made is that of the pixel made
   new-alpha : a′ ≡ alpha (colourOf [] (unpacked p) (chunkOf c))
   new-alpha = leaves ∙ alpha-alone (unpacked p) a c ∙ ap (λ (x : Pixel). alpha (colourOf [] x (chunkOf c))) (own-alpha p a kept)
 
   -- so the pixel is the one that the chunk makes
   pub recoloured : unpacked q ≡ colourOf [] (unpacked p) (chunkOf c)
   recoloured = made ∙ ap (withAlpha (colourOf [] (unpacked p) (chunkOf c))) new-alpha ∙ made-alpha p c
-
-  -- and the alpha kept apart is its alpha
-  pub alpha-kept : a′ ≡ alphaIn q
-  unfolding unpacked
-  alpha-kept = sym (ap alpha made)

@@ -1,25 +1,92 @@
--- Bytes put into an output n times over.
+-- Bytes put into an output n times over, each part after the last or over its end.
 -- Assumes nothing.
 use mathlib.Core.Path.{_≡_, sym, _∙_, ap}
 use mathlib.Core.List.{List, _++_, append-assoc, append-nil}
-use Prim.Native.Nat.{ℕ, zero, suc, _+_, _*_, _≤_}
-use native.Mathlib.Numerals.{add-one}
+use Prim.Native.Nat.{ℕ, zero, suc, _+_, _-_, _*_, _≤_}
+use native.Mathlib.Nat.{mul-le-mul-right, zero-add, suc-add}
 use native.Mathlib.Omega.{arith}
 use lib.ListN.{length}
 use Rattle.rules.specs.Bytes.{pasted, repeated}
-use Rattle.rules.proofs.PastingLaws.{pasted-next, repeated-length}
+use Rattle.rules.proofs.PastingLaws.{before-pasted, beyond-pasted, length-pasted, pasted-next, pasted-none, repeated-length}
 
--- n times over, one more at the end
-pub repeated-more : (n : ℕ) (bytes : List ℕ) → repeated n bytes ++ bytes ≡ repeated (suc n) bytes
+-- i times over, then k times
+repeated-add : (i k : ℕ) (bytes : List ℕ) → repeated (i + k) bytes ≡ repeated i bytes ++ repeated k bytes
 unfolding repeated
-repeated-more zero bytes = sym (append-nil bytes)
-repeated-more (suc n) bytes = append-assoc bytes (repeated n bytes) bytes ∙ ap (λ (l : List ℕ). bytes ++ l) (repeated-more n bytes)
+repeated-add zero k bytes = rw zero-add
+repeated-add (suc i) k bytes =
+    rw suc-add
+    (ap (λ (l : List ℕ). bytes ++ l) (repeated-add i k bytes) ∙ sym (append-assoc bytes (repeated i bytes) (repeated k bytes)))
 
--- one more time over, put after the others
-pub filled-more :
-    (out : List ℕ) (at i : ℕ) (bytes : List ℕ) → at + i * length bytes + length bytes ≤ length out
-    → pasted (at + i * length bytes) bytes (pasted at (repeated i bytes) out) ≡ pasted at (repeated (i + 1) bytes) out
-filled-more out at i bytes fits =
-    let many : length (repeated i bytes) ≡ i * length bytes = repeated-length i bytes in
-    rw (add-one, ← repeated-more i bytes, ← many)
-    (pasted-next out at (repeated i bytes) bytes (omega (arith, many)))
+-- what is put over bytes that are no more leaves nothing of them
+pasted-over :
+    (out : List ℕ) (at : ℕ) (x y : List ℕ) → length x ≤ length y → at + length y ≤ length out
+    → pasted at y (pasted at x out) ≡ pasted at y out
+pasted-over out at x y covers fits =
+    let within : at ≤ length out = omega arith in
+    let first : at + length x ≤ length out = omega arith in
+    rw (before-pasted out at x within, beyond-pasted out at x first (at + length y) (omega arith))
+
+-- what is put over the end of a part
+pasted-end :
+    (out : List ℕ) (at : ℕ) (x y z : List ℕ) → length y ≤ length z → at + length x + length z ≤ length out
+    → pasted (at + length x) z (pasted at (x ++ y) out) ≡ pasted at (x ++ z) out
+pasted-end out at x y z covers fits =
+    let first : at + length x ≤ length out = omega arith in
+    ap (pasted (at + length x) z) (sym (pasted-next out at x y (omega arith))) ∙ pasted-over (pasted at x out) (at + length x) y z covers (omega (arith, length-pasted out at x first)) ∙ pasted-next out at x z fits
+
+-- the bytes are themselves one time over
+pub once : (bytes : List ℕ) → bytes ≡ repeated 1 bytes
+unfolding repeated
+once bytes = sym (append-nil bytes)
+
+module _ (out : List ℕ) (at : ℕ) (bytes : List ℕ) where
+  -- the output with the bytes put n times over
+  abbrev pub Filled : ℕ → List ℕ → Type 0
+  Filled n now = now ≡ pasted at (repeated n bytes) out
+
+  none : Filled 0 out
+  unfolding repeated
+  none = sym (pasted-none out at)
+
+  pub filled-none : (n : ℕ) → 0 ≡ n → Filled n out
+  filled-none n zeroth = none ∙ ap (λ (m : ℕ). pasted at (repeated m bytes) out) zeroth
+
+  pub filled-one : {now : List ℕ} → now ≡ pasted at bytes out → Filled 1 now
+  filled-one is = is ∙ ap (λ (l : List ℕ). pasted at l out) (once bytes)
+
+  -- the bytes stand j times; a part that is k times, put from the i-th on over those that stand there, makes them n
+  pub refilled :
+      (i j k n : ℕ) {part : List ℕ} → part ≡ repeated k bytes
+      → {now then : List ℕ} → Filled j now → then ≡ pasted (at + i * length bytes) part now
+      → (i ≤ j) × (j ≤ n) × (i + k ≡ n) × (at + n * length bytes ≤ length out) → Filled n then
+  refilled i j k n times {now} is puts h =
+      let first = repeated i bytes in
+      let many : length first ≡ i * length bytes = repeated-length i bytes in
+      let more : length (repeated k bytes) ≡ k * length bytes = repeated-length k bytes in
+      let over : length (repeated (j - i) bytes) ≡ (j - i) * length bytes = repeated-length (j - i) bytes in
+      let less : (j - i) * length bytes ≤ k * length bytes = mul-le-mul-right (length bytes) (omega arith) in
+      let sum : n * length bytes ≡ i * length bytes + k * length bytes = rw (← (h .2)) (omega arith) in
+      let parts : repeated j bytes ≡ first ++ repeated (j - i) bytes =
+      ap (λ (m : ℕ). repeated m bytes) (omega arith) ∙ repeated-add i (j - i) bytes in
+      let whole : first ++ repeated k bytes ≡ repeated n bytes =
+      sym (repeated-add i k bytes) ∙ ap (λ (m : ℕ). repeated m bytes) (h .2) in
+      let stands : now ≡ pasted at (first ++ repeated (j - i) bytes) out = is ∙ ap (λ (l : List ℕ). pasted at l out) parts in
+      puts ∙ ap (λ (l : List ℕ). pasted (at + i * length bytes) l now) times
+      ∙ ap (λ (m : ℕ). pasted (at + m) (repeated k bytes) now) (sym many)
+      ∙ ap (pasted (at + length first) (repeated k bytes)) stands
+      ∙ pasted-end out at first (repeated (j - i) bytes) (repeated k bytes) (omega arith) (omega arith)
+      ∙ ap (λ (l : List ℕ). pasted at l out) whole
+
+  -- the same where the place is counted in bytes
+  pub refilled-from :
+      (from i j k n : ℕ) {part : List ℕ} → part ≡ repeated k bytes
+      → {now then : List ℕ} → Filled j now → then ≡ pasted from part now → from ≡ at + i * length bytes
+      → (i ≤ j) × (j ≤ n) × (i + k ≡ n) × (at + n * length bytes ≤ length out) → Filled n then
+  refilled-from from i j k n {part} times {now} is puts place =
+      refilled i j k n times is (puts ∙ ap (λ (m : ℕ). pasted m part now) place)
+
+  -- the same where the part is the bytes once
+  pub refilled-one :
+      (i j n : ℕ) {now then : List ℕ} → Filled j now → then ≡ pasted (at + i * length bytes) bytes now
+      → (i ≤ j) × (j ≤ n) × (i + 1 ≡ n) × (at + n * length bytes ≤ length out) → Filled n then
+  refilled-one i j n = refilled i j 1 n (once bytes)

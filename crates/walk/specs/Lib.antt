@@ -1,3 +1,4 @@
 -- The definitions of crate `walk`.
 pub mod Walking
+pub mod Lanes
 pub mod Asked

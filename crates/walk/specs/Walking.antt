@@ -13,6 +13,7 @@ use Rattle.rules.specs.Reading as rules
 use Rattle.rules.specs.Decode.{decoder}
 use Rattle.walk.specs.declared.Place.{Place}
 use Rattle.walk.specs.declared.Walked.{Walked}
+use Rattle.walk.specs.declared.Ended.{Ended}
 
 -- the place of the rules that a place is
 abbrev pub placeOf : Place → rules.Place
@@ -63,3 +64,16 @@ unfoldable pub walkingInto : Header → ℕ → List ℕ → ℕ → rules.Place
 walkingInto header wanted message steps place out =
     cond (fits header wanted (length message) steps (place .at) (place .pixel) (length out))
     (walking header wanted message (place .pixel) steps place out) (standing steps place out)
+
+-- how a walk of every chunk ends: whether the next one is cut short, the byte position, and the output
+pub record End : Type 0 where
+  pub cut : Bool
+  pub at : ℕ
+  pub out : List ℕ
+
+abbrev pub endOf : Walk → End
+endOf w = record { cut = w .cut; at = w .place .at; out = w .out }
+
+-- what an answer and the output at exit are
+abbrev pub endedOf : Ended → List ℕ → End
+endedOf w out = record { cut = w .cut; at = w .at; out = out }

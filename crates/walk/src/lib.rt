@@ -2,12 +2,23 @@
 ghost use mathlib.Core.Path.{_≡_};
 ghost use Prim.Native.Nat.{min};
 ghost use Rattle.pixel.specs.Types.{channelsNumber};
-ghost use Rattle.walk.specs.Walking.{placeOf, walkOf, fits as fitting, walkingInto};
+ghost use Rattle.header.specs.Header.{pixelCount};
+ghost use Rattle.rules.specs.Reading.{startPlace};
+ghost use Rattle.walk.specs.Walking.{placeOf, walkOf, endedOf, endOf, fits as fitting, walkingInto};
 use header::Header;
 use pixel::Pixel;
+use pixel::consts::QOI_HEADER_SIZE;
+use pixel::packed;
 use pixel::types::Channels;
+use spot::Spot;
 
+mod careful;
+mod fill;
 mod four;
+mod lanes;
+mod rounds;
+mod slots;
+mod spot;
 mod three;
 
 // Where a decode stands between two chunks.
@@ -25,6 +36,12 @@ pub struct Walked {
     pub place: Place,
 }
 
+// Where every chunk of a message led, and whether the next one is cut short.
+pub struct Ended {
+    pub cut: bool,
+    pub at: usize,
+}
+
 // Does at most `steps` chunks from a place, into the part of the output that starts at its pixel. Where the input
 // does not fit, it does none.
 pub fn walk(
@@ -35,7 +52,8 @@ pub fn walk(
     out: &mut [u8],
     steps: usize,
 ) -> Walked
-    ensures { λ r. ⌜ walkOf r (now (out .exit)) ≡ walkingInto header (channelsNumber wanted) (now (message .entry)) steps (placeOf place) (now (out .entry)) ⌝ }
+    ensures { λ r. ⌜ walkOf r (now (out .exit)) ≡ walkingInto header (channelsNumber wanted)
+        (now (message .entry)) steps (placeOf place) (now (out .entry)) ⌝ }
 {
     if !fits(
         message.len(),
@@ -52,9 +70,75 @@ pub fn walk(
             place,
         };
     }
-    match wanted {
-        Channels::Rgb => three::walk_three(message, header, place, out, steps),
-        Channels::Rgba => four::walk_four(message, header, place, out, steps),
+    let source = header.channels;
+    let from = place.pixel;
+    let missing = header.n_pixels() - from;
+    let start = place.current;
+    let current = packed::of_pixel(start);
+    if !rounds::may_follow(wanted, current) {
+        return careful::careful(message, header, wanted, from, place, out, steps);
+    }
+    let slots = place.slots;
+    let mut held = slots::hold(slots);
+    let first = Spot {
+        at: place.at,
+        done: 0,
+        spare: steps,
+        lanes: lanes::of_packed(current),
+    };
+    let spot = rounds::rounds(message, wanted, source, missing, first, &mut held, out);
+    let reached = spot::place(from, spot, held);
+    if spot.done == missing {
+        return Walked {
+            cut: false,
+            spare: spot.spare,
+            place: reached,
+        };
+    }
+    careful::careful(message, header, wanted, from, reached, out, spot.spare)
+}
+
+// Does every chunk of a message from its start. Where the input does not fit, it does none.
+pub fn whole(message: &[u8], header: Header, wanted: Channels, out: &mut [u8]) -> Ended
+    ensures { λ r. ⌜ endedOf r (now (out .exit)) ≡ endOf (walkingInto header (channelsNumber wanted)
+        (now (message .entry)) (pixelCount header) startPlace (now (out .entry))) ⌝ }
+{
+    let source = header.channels;
+    let missing = header.n_pixels();
+    if !fits(
+        message.len(),
+        header,
+        wanted,
+        QOI_HEADER_SIZE,
+        0,
+        out.len(),
+        missing,
+    ) {
+        return Ended {
+            cut: false,
+            at: QOI_HEADER_SIZE,
+        };
+    }
+    let mut held: [u32; 64] = [0; 64];
+    let first = Spot {
+        at: QOI_HEADER_SIZE,
+        done: 0,
+        spare: missing,
+        lanes: lanes::of_bytes(0, 0, 0, 255),
+    };
+    let spot = rounds::rounds(message, wanted, source, missing, first, &mut held, out);
+    if spot.done == missing {
+        return Ended {
+            cut: false,
+            at: spot.at,
+        };
+    }
+    let reached = spot::place(0, spot, held);
+    let rest = careful::careful(message, header, wanted, 0, reached, out, spot.spare);
+    let end = rest.place;
+    Ended {
+        cut: rest.cut,
+        at: end.at,
     }
 }
 

@@ -1,110 +1,123 @@
-// The chunks of a decode to three channels, and the pixels written.
+// The chunks of a decode to three channels, as far as each is sure to be whole.
 ghost use mathlib.Core.Path.{_≡_};
+ghost use mathlib.Core.List.{map};
 ghost use Prim.Native.Nat.{_+_, _*_, _≤_};
-ghost use lib.ListN.{length};
+ghost use lib.ListN.{length, set};
+ghost use Rattle.pixel.specs.Colour.{slotOf};
 ghost use Rattle.pixel.specs.Packed.{unpacked};
-ghost use Rattle.rules.specs.Bytes.{repeated, pasted};
-ghost use Rattle.walk.specs.Walking.{placeOf, walkOf, walking};
-ghost use Rattle.walk.specs.Asked.{Fits, threeBytes};
-use crate::Place;
-use crate::Walked;
-use chunk::Found;
-use header::Header;
+ghost use Rattle.rules.specs.Bytes.{pasted};
+ghost use Rattle.walk.specs.Lanes.{pixelIn, Narrow};
+ghost use Rattle.walk.specs.Asked.{Stands, Onward, threeBytes};
+use crate::fill;
+use crate::lanes;
+use crate::lanes::Lanes;
+use crate::spot::Spot;
 use pixel::packed;
+use pixel::types::Channels;
 
-// At most `steps` chunks from a place. `limit` is where the pixel position would be if each chunk left brought one
-// pixel, so that only a run has to count.
-pub fn walk_three(
+// A round: n chunks, where n steps, n pixels and 5n bytes are left. It ends early before an ff that is stuck, and where
+// runs left fewer pixels.
+pub fn quick_three(
     message: &[u8],
-    header: Header,
-    place: Place,
+    source: Channels,
+    missing: usize,
+    spot: Spot,
+    held: &mut [u32; 64],
     out: &mut [u8],
-    steps: usize,
-) -> Walked
-    requires { ⌜ Fits header 3 (now message) steps (placeOf place) (now out) ⌝ }
-    ensures { λ r. ⌜ walkOf r (now (out .exit)) ≡ walking header 3 (now (message .entry)) (place .pixel) steps (placeOf place) (now (out .entry)) ⌝ }
+) -> Spot
+    requires { ⌜ Stands 3 (now message) missing spot (now out) ⌝ }
+    ensures { λ r. ⌜ Onward 3 (now (message .entry)) source missing
+        spot (map unpacked (now (held .entry))) (now (out .entry))
+        r (map unpacked (now (held .exit))) (now (out .exit)) ⌝ }
 {
-    let source = header.channels;
-    let from = place.pixel;
-    let missing = header.n_pixels() - from;
-    let first = place.current;
-    let mut slots = place.slots;
-    let mut current = packed::of_pixel(first);
-    let mut at = place.at;
-    let mut done: usize = 0;
-    let mut limit = steps;
-    let mut bound = crate::least(limit, missing);
-    while done < bound {
-        match chunk::read(source, &message[at..]) {
-            Found::Cut => {
-                return Walked {
-                    cut: true,
-                    spare: limit - done,
-                    place: Place {
-                        at,
-                        pixel: from + done,
-                        current: packed::unpack(current),
-                        slots,
-                    },
-                };
-            }
-            Found::Index(slot) => {
-                let i = slot as usize;
-                let stored = slots[i];
-                current = packed::opaque(packed::of_pixel(stored));
-                put_three(out, done * 3, current);
-                at += 1;
+    let mut at = spot.at;
+    let mut done = spot.done;
+    let mut l = spot.lanes;
+    let mut quota = crate::least(
+        crate::least(spot.spare, missing - done),
+        (message.len() - at) / 5,
+    );
+    let base = spot.spare - quota;
+    while 0 < quota {
+        let byte = message[at];
+        if byte < 64 {
+            let stored = held[byte as usize];
+            l = lanes::of_packed(packed::opaque(stored));
+            fill::put_three(out, done * 3, stored);
+            at += 1;
+            done += 1;
+            quota -= 1;
+        } else if 192 <= byte {
+            if byte == 254 {
+                l = lanes::of_bytes(message[at + 1], message[at + 2], message[at + 3], 255);
+                keep_three(held, out, done, l);
+                at += 4;
                 done += 1;
-            }
-            Found::Run(times) => {
-                let n = crate::least(times as usize, missing - done);
-                current = packed::opaque(current);
-                fill_three(out, done * 3, n, current);
+                quota -= 1;
+            } else if byte == 255 {
+                match source {
+                    Channels::Rgb => {
+                        return Spot {
+                            at,
+                            done,
+                            spare: base + quota,
+                            lanes: l,
+                        };
+                    }
+                    Channels::Rgba => {
+                        l = lanes::of_bytes(message[at + 1], message[at + 2], message[at + 3], 255);
+                        keep_three(held, out, done, l);
+                        at += 5;
+                        done += 1;
+                        quota -= 1;
+                    }
+                }
+            } else {
+                let n = crate::least(byte as usize - 191, missing - done);
+                fill::fill_three(out, done * 3, n, lanes::join(l));
                 at += 1;
                 done += n;
-                limit += n - 1;
-                bound = crate::least(limit, missing);
+                quota -= 1;
+                if missing - done < quota {
+                    return Spot {
+                        at,
+                        done,
+                        spare: base + quota,
+                        lanes: l,
+                    };
+                }
             }
-            Found::Colour(colour) => {
-                at += chunk::size(colour);
-                current = chunk::recolour(current, 255, colour);
-                let i = packed::slot(current);
-                slots[i] = packed::unpack(current);
-                put_three(out, done * 3, current);
-                done += 1;
-            }
+        } else if byte < 128 {
+            l = lanes::after_diff(l, byte);
+            keep_three(held, out, done, l);
+            at += 1;
+            done += 1;
+            quota -= 1;
+        } else {
+            l = lanes::after_luma(l, byte, message[at + 1]);
+            keep_three(held, out, done, l);
+            at += 2;
+            done += 1;
+            quota -= 1;
         }
     }
-    Walked {
-        cut: false,
-        spare: limit - done,
-        place: Place {
-            at,
-            pixel: from + done,
-            current: packed::unpack(current),
-            slots,
-        },
+    Spot {
+        at,
+        done,
+        spare: base,
+        lanes: l,
     }
 }
 
-// Writes a pixel's three bytes at a place.
-fn put_three(out: &mut [u8], at: usize, p: u32)
-    requires { ⌜ at + 3 ≤ length (now out) ⌝ }
-    ensures { λ _. ⌜ now (out .exit) ≡ pasted at (threeBytes (unpacked p)) (now (out .entry)) ⌝ }
+// Stores a pixel in its slot, and writes it.
+fn keep_three(held: &mut [u32; 64], out: &mut [u8], done: usize, l: Lanes)
+    requires { ⌜ Narrow l × (done * 3 + 3 ≤ length (now out)) ⌝ }
+    ensures { λ _. ⌜ (map unpacked (now (held .exit))
+        ≡ set (map unpacked (now (held .entry))) (slotOf (pixelIn l)) (pixelIn l))
+        × (now (out .exit) ≡ pasted (done * 3) (threeBytes (pixelIn l)) (now (out .entry))) ⌝ }
 {
-    out[at] = packed::red(p);
-    out[at + 1] = packed::green(p);
-    out[at + 2] = packed::blue(p);
-}
-
-// Writes a pixel's three bytes `times` times.
-fn fill_three(out: &mut [u8], at: usize, times: usize, p: u32)
-    requires { ⌜ at + times * 3 ≤ length (now out) ⌝ }
-    ensures { λ _. ⌜ now (out .exit) ≡ pasted at (repeated times (threeBytes (unpacked p))) (now (out .entry)) ⌝ }
-{
-    let mut i: usize = 0;
-    while i < times {
-        put_three(out, at + i * 3, p);
-        i += 1;
-    }
+    let p = lanes::join(l);
+    let i = lanes::slot(l);
+    held[i] = p;
+    fill::put_three(out, done * 3, p);
 }

@@ -1,12 +1,12 @@
--- `walk::three::put_three` meets its contract: three stores one after another are three bytes put there.
+-- `walk::fill::put_three` meets its contract: three stores one after another are three bytes put there.
 -- Assumes nothing.
 use native.Mathlib.Omega.{arith}
 use lib.ListN.{length-set}
 use borrow.Author.Needs.{needs}
 use Rattle.pixel.specs.Packed.{unpacked}
 use Rattle.rules.proofs.PastingLaws.{stored-three}
-use Rattle.walk.proofs.three.put_three.Statement.{statement}
-use Rattle.walk.proofs.three.put_three.Tie as tie
+use Rattle.walk.proofs.fill.put_three.Statement.{statement}
+use Rattle.walk.proofs.fill.put_three.Tie as tie
 
 slice-write-out-2 : tie.Need-slice-write-out-2
 slice-write-out-2 c = simp length-set (omega arith)

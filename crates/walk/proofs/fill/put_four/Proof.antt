@@ -1,12 +1,12 @@
--- `walk::four::put_four` meets its contract: four stores one after another are four bytes put there.
+-- `walk::fill::put_four` meets its contract: four stores one after another are four bytes put there.
 -- Assumes nothing.
 use native.Mathlib.Omega.{arith}
 use lib.ListN.{length-set}
 use borrow.Author.Needs.{needs}
 use Rattle.pixel.specs.Packed.{unpacked}
 use Rattle.rules.proofs.PastingLaws.{stored-four}
-use Rattle.walk.proofs.four.put_four.Statement.{statement}
-use Rattle.walk.proofs.four.put_four.Tie as tie
+use Rattle.walk.proofs.fill.put_four.Statement.{statement}
+use Rattle.walk.proofs.fill.put_four.Tie as tie
 
 slice-write-out-2 : tie.Need-slice-write-out-2
 slice-write-out-2 c = simp length-set (omega arith)

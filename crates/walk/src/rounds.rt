@@ -1,0 +1,69 @@
+// Quick rounds, one after another while they get on.
+ghost use mathlib.Core.List.{map};
+ghost use mathlib.Core.Path.{_≡_};
+ghost use lib.Dec.{T};
+ghost use Rattle.pixel.specs.Packed.{unpacked};
+ghost use Rattle.pixel.specs.Types.{channelsNumber};
+ghost use Rattle.rules.specs.Decode.{decoderKeeps};
+ghost use Rattle.walk.specs.Asked.{Stands, Onward};
+use crate::four;
+use crate::spot::Spot;
+use crate::three;
+use pixel::packed;
+use pixel::types::Channels;
+
+// As far as every chunk is sure to be whole: to the last pixel, if the message has its marker and no ff is stuck.
+pub fn rounds(
+    message: &[u8],
+    wanted: Channels,
+    source: Channels,
+    missing: usize,
+    first: Spot,
+    held: &mut [u32; 64],
+    out: &mut [u8],
+) -> Spot
+    requires { ⌜ Stands (channelsNumber wanted) (now message) missing first (now out) ⌝ }
+    ensures { λ r. ⌜ Onward (channelsNumber wanted) (now (message .entry)) source missing
+        first (map unpacked (now (held .entry))) (now (out .entry))
+        r (map unpacked (now (held .exit))) (now (out .exit)) ⌝ }
+{
+    let mut spot = first;
+    let mut before = spot.spare + 1;
+    while spot.spare < before {
+        before = spot.spare;
+        spot = round(message, wanted, source, missing, spot, held, out);
+    }
+    spot
+}
+
+// One round.
+fn round(
+    message: &[u8],
+    wanted: Channels,
+    source: Channels,
+    missing: usize,
+    spot: Spot,
+    held: &mut [u32; 64],
+    out: &mut [u8],
+) -> Spot
+    requires { ⌜ Stands (channelsNumber wanted) (now message) missing spot (now out) ⌝ }
+    ensures { λ r. ⌜ Onward (channelsNumber wanted) (now (message .entry)) source missing
+        spot (map unpacked (now (held .entry))) (now (out .entry))
+        r (map unpacked (now (held .exit))) (now (out .exit)) ⌝ }
+{
+    match wanted {
+        Channels::Rgb => three::quick_three(message, source, missing, spot, held, out),
+        Channels::Rgba => four::quick_four(message, source, missing, spot, held, out),
+    }
+}
+
+// Whether a packed pixel is one that a chunk may leave: with three channels wanted its alpha is 255, but a made-up place may
+// have another.
+pub fn may_follow(wanted: Channels, p: u32) -> bool
+    ensures { λ r. ⌜ (T r → decoderKeeps (channelsNumber wanted) (unpacked p) ≡ unpacked p) ⌝ }
+{
+    match wanted {
+        Channels::Rgb => packed::alpha(p) == 255,
+        Channels::Rgba => true,
+    }
+}
