@@ -1,2 +1,3 @@
 -- The definitions of crate `decode`.
 pub mod Decoded
+pub mod Asked

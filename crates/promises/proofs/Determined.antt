@@ -29,7 +29,7 @@ use Rattle.report.proofs as report
 use Rattle.qoi.proofs as qoi
 use Rattle.resume.specs.State.{state-determined}
 use Rattle.promises.specs.Determined.{Determined, DeterminedBy}
-use Rattle.promises.proofs.OneToOne.{unpacked-determined, found-determined, walk-determined, started-determined, ran-determined, answer-determined, encoded-determined, verdict-determined, returned-same, figures-same}
+use Rattle.promises.proofs.OneToOne.{unpacked-determined, found-determined, walk-determined, end-determined, started-determined, ran-determined, answer-determined, encoded-determined, verdict-determined, returned-same, figures-same}
 
 -- ---- crate `text`: of a text, what it says
 pub text·Text·empty : DeterminedBy Text.empty.Kinds.ps Text.empty.Kinds.r (λ κs z z′. textOf z ≡ textOf z′) Text.empty.Reads.Post
@@ -234,6 +234,11 @@ pub walk·walk : Determined walk.walk.Kinds.ps walk.walk.Kinds.r walk.walk.Reads
 walk·walk κs a z z′ e e′ ok ok′ p q =
     let same = walk-determined z z′ (e .1 .1 .1 .1 .0) (e′ .1 .1 .1 .1 .0) (p ∙ sym q) in
     (same .0, λ i. (tt, (tt, (tt, (tt, (same .1 i, (tt, tt)))))))
+
+pub walk·whole : Determined walk.whole.Kinds.ps walk.whole.Kinds.r walk.whole.Reads.Post
+walk·whole κs a z z′ e e′ ok ok′ p q =
+    let same = end-determined z z′ (e .1 .1 .1 .0) (e′ .1 .1 .1 .0) (p ∙ sym q) in
+    (same .0, λ i. (tt, (tt, (tt, (same .1 i, tt)))))
 
 pub walk·least : Determined walk.least.Kinds.ps walk.least.Kinds.r walk.least.Reads.Post
 walk·least κs a z z′ e e′ ok ok′ p q = (p ∙ sym q, refl)

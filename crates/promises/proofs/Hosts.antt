@@ -9,15 +9,21 @@ use lib.Dec.{leb→le}
 use lib.ListN.{length, take}
 use Rattle.pixel.specs.declared.error.Error.{Error}
 use Rattle.pixel.specs.declared.error.Error.the-variants.{UnexpectedBufferEnd, InvalidChannels, InvalidColorSpace, InvalidMagic, InvalidImageDimensions, InvalidImageLength, OutputBufferTooSmall, InvalidPadding, BadState, RunPastImage, BytesAfterMarker, InvalidHour, InvalidCellCount, TotalTooLarge}
+use Rattle.pixel.specs.declared.types.ChannelsRead.{ChannelsRead}
+use Rattle.pixel.specs.declared.types.ChannelsRead.the-variants as channels-read
 use Rattle.pixel.specs.Bytes.{AllBytes}
 use Rattle.pixel.specs.Refusal.{numberOf}
-use Rattle.header.specs.Header.{pixelCount}
+use Rattle.pixel.specs.Types.{channelsFrom}
+use Rattle.header.specs.declared.Header.{Header}
+use Rattle.header.specs.declared.HeaderRead.{HeaderRead}
+use Rattle.header.specs.declared.HeaderRead.the-variants as header-read
+use Rattle.header.specs.Header.{pixelCount, headerOf}
 use Rattle.header.proofs.Laws.{is-true}
-use Rattle.rules.specs.Reading.{Answer, done, refused}
+use Rattle.rules.specs.Reading.{Answer, done, refused, silent, afterWanted, afterHeader, wholeReading}
 use Rattle.rules.specs.Bytes.{writtenOver}
-use Rattle.rules.specs.Decode.{decoding}
+use Rattle.rules.specs.Decode.{decoder, decoding}
 use Rattle.rules.specs.Figures.{answerFigures}
-use Rattle.rules.specs.Step.{State, wellFormed, Started, started, notStarted, starting, Ran, going, ended, outputOf, running}
+use Rattle.rules.specs.Step.{State, wellFormed, Started, started, notStarted, startWanted, startHeader, starting, Ran, going, ended, outputOf, running}
 use Rattle.rules.specs.Record.{Recorded, recorded, notRecorded, recording, recordedOver, recordBytes, readRecord}
 use Rattle.rules.proofs.RecordLaws.{record-length, formed}
 use Rattle.rules.proofs.RecordAgainLaws.{record-written-back, record-well-formed, record-short}
@@ -27,9 +33,27 @@ use Rattle.demands.proofs.TakeOver.{reached-readable, reached-well-formed, enou
 use Rattle.demands.proofs.Steps.{run-keeps-before, run-further}
 use Rattle.demands.proofs.Inside.{inside-keeps-before}
 use Rattle.demands.proofs.Written.{written-record}
-use Rattle.decode.proofs.Whole.{refused-start}
 use Rattle.qoi.specs.Hosted.{startedFigures, startedOver, recordedFigures, ranFigures, ranNext, hostFigures, hostOut, hostNext}
 use Rattle.promises.specs.Hosts.{says, returned, recordRoom, Host, starts, runs, takes-over, EndsAsDecode, TakesOver, Starts, TestsRecord}
+
+-- what refuses a start refuses the decode
+refused-start :
+    (m : List ℕ) (w room : ℕ) (e : Error) → starting m w ≡ notStarted e → decoding m w room ≡ silent (refused e)
+unfolding starting startHeader startWanted wholeReading afterHeader afterWanted
+refused-start m w room e is = heading (headerOf m) is
+  where
+    told : (x : Error) → notStarted x ≡ notStarted e → silent (refused x) ≡ silent (refused e)
+    told x is = let same : x ≡ e = cc in ap (λ (y : Error). silent (refused y)) same
+
+    wanting :
+        (header : Header) (c : ChannelsRead) → startWanted header c ≡ notStarted e
+        → afterWanted decoder m room header c ≡ silent (refused e)
+    wanting header (channels-read.Refused x) is = told x is
+    wanting header (channels-read.Ok c) is = absurd (let z : _≡_ {A = ℕ} 0 1 = cc in omega arith)
+
+    heading : (r : HeaderRead) → startHeader w r ≡ notStarted e → afterHeader decoder m room w r ≡ silent (refused e)
+    heading (header-read.Refused x) is = told x is
+    heading (header-read.Ok header) is = wanting header (channelsFrom w) is
 
 -- a refusal's number is neither 0 nor 256
 pub number-small : (e : Error) → (1 ≤ numberOf e) × (numberOf e ≤ 21)

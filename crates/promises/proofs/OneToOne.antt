@@ -21,9 +21,10 @@ use Rattle.chunk.specs.declared.Colour.the-variants as colour
 use Rattle.chunk.specs.declared.Found.{Found}
 use Rattle.chunk.specs.declared.Found.the-variants as found
 use Rattle.chunk.specs.Found.{foundOf}
+use Rattle.walk.specs.declared.Ended.{Ended}
 use Rattle.walk.specs.declared.Place.{Place}
 use Rattle.walk.specs.declared.Walked.{Walked}
-use Rattle.walk.specs.Walking.{Walk, placeOf, walkOf}
+use Rattle.walk.specs.Walking.{Walk, End, placeOf, walkOf, endedOf}
 use Rattle.resume.specs.declared.Started.{Started}
 use Rattle.resume.specs.declared.StepAnswer.{StepAnswer}
 use Rattle.resume.specs.declared.StepAnswer.the-variants as stepped
@@ -86,6 +87,10 @@ pub walk-determined : (a b : Walked) (o o′ : List ℕ) → walkOf a o ≡ walk
 walk-determined a b o o′ same =
     let place = place-determined (a .place) (b .place) (ap (λ (w : Walk). w .place) same) in
     (λ i. record { cut = same i .cut; spare = same i .spare; place = place i }, ap (λ (w : Walk). w .out) same)
+
+-- and so has the end of every chunk
+pub end-determined : (a b : Ended) (o o′ : List ℕ) → endedOf a o ≡ endedOf b o′ → (a ≡ b) × (o ≡ o′)
+end-determined a b o o′ same = (λ i. record { cut = same i .cut; at = same i .at }, ap (λ (w : End). w .out) same)
 
 -- a start is its answer and its state
 pub started-determined : (a b : Started) → a .answer ≡ b .answer → stateOf (a .decoder) ≡ stateOf (b .decoder) → a ≡ b
