@@ -1,2 +1,3 @@
 -- Laws that the proofs of crate `strict` share.
 pub mod Loop
+pub mod Arms

@@ -24,10 +24,7 @@ use Rattle.chunk.specs.declared.Colour.the-variants as colour
 use Rattle.chunk.specs.declared.Found.{Found}
 use Rattle.chunk.specs.declared.Found.the-variants as found
 use Rattle.chunk.specs.Found.{foundOf, chunkOf}
-
--- the tally that the loop's locals are
-abbrev tallyAt : ℕ → ℕ → ℕ → Tally
-tallyAt at left chunks = record { at = at; left = left; chunks = chunks }
+use Rattle.strict.specs.Asked.{tallyAt, Head}
 
 -- what stands at a place of the message
 abbrev chunkHere : Header → List ℕ → ℕ → rules.Found
@@ -46,24 +43,19 @@ module _ (header : Header) (message : List ℕ) where
       → Holds at r′
   finds at r r′ told e = rw (← whole-tail message at) (sym e ∙ ap foundOf told)
 
-  -- at the loop's head: the check from here is the check of the message; each chunk so far counted a pixel or more
-  pub record Head (pixels left at chunks : ℕ) : Type 0 where
-    pub small : pixels ≤ 400000000
-    pub inside : at ≤ length message
-    pub ahead : chunks + left ≤ pixels
-    pub same : strict message ≡ strictFrom header message (pixels - chunks) (tallyAt at left chunks)
-
   -- before the first chunk
   pub begins :
-      headerOf message ≡ header-read.Ok header → (pixels : ℕ) → pixels ≡ pixelCount header → Head pixels pixels 14 0
+      headerOf message ≡ header-read.Ok header → (left : ℕ) → left ≡ pixelCount header
+      → Head header message (pixelCount header) left 14 0
   unfolding strict strictHeader
-  begins reads pixels counted =
+  begins reads left counted =
       let ok = header-accepted message header reads in
       record {
-        small = omega (arith, counted, pixels-small header (ok .fit));
+        small = pixels-small header (ok .fit);
         inside = ok .whole;
         ahead = omega arith;
-        same = rw (reads, ← counted) (ap (λ (n : ℕ). strictFrom header message n (tallyAt 14 pixels 0)) (omega arith));
+        same = rw (reads, counted)
+            (ap (λ (n : ℕ). strictFrom header message n (tallyAt 14 (pixelCount header) 0)) (omega arith));
       }
 
 module _ {header : Header} {message : List ℕ} {pixels left at chunks : ℕ}

@@ -1,2 +1,3 @@
 -- The definitions of crate `strict`.
 pub mod Checked
+pub mod Asked

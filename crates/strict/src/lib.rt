@@ -16,6 +16,9 @@ use header::HeaderRead;
 use pixel::consts::QOI_HEADER_SIZE;
 use pixel::consts::QOI_PADDING_SIZE;
 use pixel::error::Error;
+use quick::Counted;
+
+mod quick;
 
 pub enum StrictAnswer {
     // The header, how many chunks, and how many bytes in all.
@@ -43,9 +46,18 @@ fn check(message: &[u8], header: Header) -> StrictAnswer
     ensures { λ r. ⌜ verdictOf r ≡ strictly (now (message .entry)) ⌝ }
 {
     let source = header.channels;
-    let mut left = header.n_pixels();
-    let mut at = QOI_HEADER_SIZE;
-    let mut chunks: usize = 0;
+    let reached = quick::quick(
+        message,
+        header,
+        Counted {
+            at: QOI_HEADER_SIZE,
+            left: header.n_pixels(),
+            chunks: 0,
+        },
+    );
+    let mut left = reached.left;
+    let mut at = reached.at;
+    let mut chunks = reached.chunks;
     while 0 < left {
         match chunk::read(source, &message[at..]) {
             Found::Cut => {

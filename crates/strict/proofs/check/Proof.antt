@@ -1,20 +1,23 @@
--- `strict::check` meets its contract: at the loop's head the check from here is the check of the message.
+-- `strict::check` meets its contract: at the loop's head, which the quick loop led to, the check from here is the check
+-- of the message.
 -- Assumes nothing.
 use mathlib.Core.Path.{_≡_, refl, sym, _∙_}
 use Prim.Native.Nat.{_<_}
 use native.Mathlib.Omega.{arith}
 use borrow.Author.Needs.{needs}
 use borrow.Author.Tests.{ltb-true, ltb-false}
+use Rattle.header.specs.Header.{pixelCount}
 use Rattle.rules.specs.Chunk.{sizeOf}
 use Rattle.chunk.specs.declared.Found.{Found}
 use Rattle.chunk.specs.declared.Found.the-variants as found
 use Rattle.chunk.specs.Found.{chunkOf}
-use Rattle.strict.proofs.Loop.{Holds, Head, begins, finds, within, run-some, ends, ends-cut, ends-stuck, ends-run, after-index, after-run, after-colour}
+use Rattle.strict.specs.Asked.{Head}
+use Rattle.strict.proofs.Loop.{Holds, begins, finds, within, run-some, ends, ends-cut, ends-stuck, ends-run, after-index, after-run, after-colour}
 use Rattle.strict.proofs.check.Statement.{statement}
 use Rattle.strict.proofs.check.Tie as tie
 
 abbrev Inv-loop : tie.InvT-loop
-Inv-loop message header source left₀ at₀ chunks₀ left at chunks = Head header message left₀ left at chunks
+Inv-loop message header source left₀ at₀ chunks₀ left at chunks = Head header message (pixelCount header) left at chunks
 
 abbrev μ-loop : tie.MeasureT-loop
 μ-loop message header source left₀ at₀ chunks₀ left at chunks = left
@@ -22,15 +25,19 @@ abbrev μ-loop : tie.MeasureT-loop
 -- what the reader found at this place
 here :
     (c : tie.After-read Inv-loop μ-loop) (r : Found) → c .read .result ≡ r
-    → Holds (c .before .before .before .before .before .before .args .header)
-    (c .before .before .before .before .before .before .args .message .now) (c .before .before .before .loop .at) r
+    → Holds (c .before .before .before .before .before .before .before .args .header)
+    (c .before .before .before .before .before .before .before .args .message .now)
+    (c .before .before .before .loop .at) r
 here c r told =
     let l = c .before .before .before in
-    let args = l .before .before .before .args in
+    let args = l .before .before .before .before .args in
     finds (args .header) (args .message .now) (l .loop .at) _ r told (c .read .ensures)
 
+quick-requires : tie.Need-quick-requires Inv-loop μ-loop
+quick-requires c κs = begins _ _ (c .before .before .pre) _ (c .n-pixels .ensures)
+
 loop-holds : tie.Need-loop-holds Inv-loop μ-loop
-loop-holds c = begins _ _ (c .before .before .pre) _ (c .n-pixels .ensures)
+loop-holds c = c .quick .ensures
 
 returns : tie.Need-returns Inv-loop μ-loop
 returns c =
@@ -116,6 +123,7 @@ check-spec =
     Inv-loop
     μ-loop
     (λ c κs. search needs)
+    quick-requires
     loop-holds
     (λ c. search needs)
     (λ c. search needs)
