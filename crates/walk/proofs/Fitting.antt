@@ -1,16 +1,10 @@
 -- The test of the input, taken apart.
 -- Assumes nothing.
-use mathlib.Core.Path.{_≡_, sym, _∙_, subst}
-use mathlib.Core.Bool.{Bool, true, false, not}
 use mathlib.Core.List.{List}
-use Prim.{tt}
 use Prim.Native.Nat.{ℕ, _+_, _-_, _*_}
 use lib.Dec.{T, leb, leb→le}
 use lib.ListN.{length}
-use borrow.Author.Tests.{not-false}
 use native.Mathlib.Omega.{arith}
-use Rattle.pixel.specs.declared.types.Channels.{Channels}
-use Rattle.pixel.specs.Types.{channelsNumber}
 use Rattle.header.specs.declared.Header.{Header}
 use Rattle.header.specs.Header.{dimensionsFit, pixelCount}
 use Rattle.header.proofs.Laws.{both}
@@ -37,13 +31,3 @@ fitted header wanted message steps place out t =
       few-steps = leb→le steps (pixelCount header + 1) (fifth .0);
       room = leb→le ((pixelCount header - place .pixel) * wanted) (length out) (fifth .1);
     }
-
--- what is asked of a loop, where the test was passed and the wanted channels are its own
-pub allowed :
-    (header : Header) (w w′ : Channels) (message : List ℕ) (steps : ℕ) (place : Place) (out : List ℕ) (passed : Bool)
-    → passed ≡ fits header (channelsNumber w) (length message) steps (place .at) (place .pixel) (length out)
-    → not passed ≡ false → w ≡ w′ → Fits header (channelsNumber w′) message (place .pixel) steps place out
-allowed header w w′ message steps place out passed e f same =
-    let test : true ≡ fits header (channelsNumber w) (length message) steps (place .at) (place .pixel) (length out) = sym (not-false passed f) ∙ e in
-    subst (λ (v : Channels). Fits header (channelsNumber v) message (place .pixel) steps place out) same
-    (fitted header (channelsNumber w) message steps place out (subst T test tt))

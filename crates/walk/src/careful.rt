@@ -16,7 +16,7 @@ use header::Header;
 use pixel::packed;
 use pixel::types::Channels;
 
-// At most `steps` chunks from a place, in an output that starts at pixel `from`. `limit` is where the pixel position
+// At most `steps` chunks from a place, in an output that starts at pixel `from`. `limit` is where `done`
 // would be if each chunk left brought one pixel, so that only a run has to count.
 pub fn careful(
     message: &[u8],

@@ -12,7 +12,6 @@ use crate::fill;
 use crate::lanes;
 use crate::lanes::Lanes;
 use crate::spot::Spot;
-use pixel::packed;
 use pixel::types::Channels;
 
 // A round: n chunks, where n steps, n pixels and 5n bytes are left. It ends early before an ff that is stuck, and where

@@ -12,7 +12,8 @@ use crate::three;
 use pixel::packed;
 use pixel::types::Channels;
 
-// As far as every chunk is sure to be whole: to the last pixel, if the message has its marker and no ff is stuck.
+// As far as every chunk is sure to be whole: to the last pixel or step, if the message has its marker and no ff is
+// stuck.
 pub fn rounds(
     message: &[u8],
     wanted: Channels,
@@ -57,8 +58,8 @@ fn round(
     }
 }
 
-// Whether a packed pixel is one that a chunk may leave: with three channels wanted its alpha is 255, but a made-up place may
-// have another.
+// Whether a packed pixel is one that a chunk may leave: with three channels wanted its alpha is 255, but a made-up
+// place may have another. A false answer only costs time.
 pub fn may_follow(wanted: Channels, p: u32) -> bool
     ensures { λ r. ⌜ (T r → decoderKeeps (channelsNumber wanted) (unpacked p) ≡ unpacked p) ⌝ }
 {
