@@ -3,12 +3,12 @@
 -- Assumes nothing.
 use mathlib.Core.Path.{_≡_, refl, sym, subst, _∙_, ap, ap₂}
 use mathlib.Core.Bool.{true, cond}
-use mathlib.Core.List.{List, [], _∷_, map}
+use mathlib.Core.List.{List, [], map}
 use Prim.Native.Nat.{ℕ, zero, suc, _+_, _-_, _*_, _≤_, _<_, min}
 use native.Mathlib.Nat.{add-mul, mul-le-mul-right}
 use native.Mathlib.Omega.{arith}
 use borrow.Author.Tests.{lt-ltb, le-ltb}
-use lib.ListN.{length, getD, take, drop, set, length-set, length-drop, length-map}
+use lib.ListN.{length, getD, take, drop, set, length-drop, length-map}
 use lib.Seq.{length-take-le}
 use Rattle.pixel.specs.declared.Pixel.{Pixel}
 use Rattle.pixel.specs.declared.types.Channels.{Channels}
@@ -38,12 +38,6 @@ unmapped f l n e = sym (length-map l f) ∙ e
 -- the place that the loop's locals are
 abbrev pub placeAt : ℕ → ℕ → Pixel → List Pixel → Place
 placeAt at pixel current slots = record { at = at; pixel = pixel; current = current; slots = slots }
-
--- within a list the value for what is missing does not matter
-getD-any : (l : List Pixel) (i : ℕ) (d e : Pixel) → i < length l → getD l i d ≡ getD l i e
-getD-any [] i d e h = absurd (omega arith)
-getD-any (x ∷ xs) zero d e h = refl
-getD-any (x ∷ xs) (suc i) d e h = getD-any xs i d e (omega arith)
 
 -- a packed pixel has four bytes, and the first of them are those that are written
 four-long : (q : ℕ) → length (unpacked q .rgba) ≡ 4
@@ -177,11 +171,11 @@ module _ {wanted : ℕ} {message : List ℕ} {source : Channels} {missing : ℕ}
 
 -- at the careful loop's head: what is left to walk from here is what was to be walked from the first place; what the
 -- locals keep to
-pub record Head (wanted : ℕ) (message : List ℕ) (source : Channels) (from missing : ℕ)
-    (first : Place) (steps : ℕ) (out₀ : List ℕ)
+pub record Head (wanted : ℕ) (message : List ℕ) (source : Channels) (missing : ℕ)
+    (first : ℕ → Place) (steps : ℕ) (out₀ : List ℕ)
     (out : List ℕ) (slots : List Pixel) (current : Pixel) (at done limit bound : ℕ) : Type 0 where
   pub few : wanted ≤ 4
-  pub small : from + missing ≤ 400000000
+  pub small : missing ≤ 400000000
   pub limited : limit ≤ done + 400000001
   pub ahead : done ≤ limit
   pub bounded : bound ≡ min limit missing
@@ -189,21 +183,20 @@ pub record Head (wanted : ℕ) (message : List ℕ) (source : Channels) (from mi
   pub inside : at ≤ length message
   pub room : missing * wanted ≤ length out
   pub same-length : length out ≡ length out₀
-  pub long : length slots ≡ 64
   pub whole :
-      (header : Header) → Of source missing from header
-      → walking header wanted message from steps first out₀
+      (from : ℕ) (header : Header) → Of source missing from header
+      → walking header wanted message from steps (first from) out₀
       ≡ walking header wanted message from (limit - done) (placeAt at (from + done) current slots) out
 
-module _ {wanted : ℕ} {message : List ℕ} {source : Channels} {from missing : ℕ}
-    {first : Place} {steps : ℕ} {out₀ out : List ℕ} {slots : List Pixel} {current : Pixel} {at done limit bound : ℕ}
-    (h : Head wanted message source from missing first steps out₀ out slots current at done limit bound) where
-  abbrev here : Place
-  here = placeAt at (from + done) current slots
+module _ {wanted : ℕ} {message : List ℕ} {source : Channels} {missing : ℕ}
+    {first : ℕ → Place} {steps : ℕ} {out₀ out : List ℕ} {slots : List Pixel} {current : Pixel} {at done limit bound : ℕ}
+    (h : Head wanted message source missing first steps out₀ out slots current at done limit bound) where
+  abbrev here : ℕ → Place
+  here from = placeAt at (from + done) current slots
 
   -- at the head again, with other locals
   abbrev Again : List ℕ → List Pixel → Pixel → ℕ → ℕ → ℕ → ℕ → Type 0
-  Again = Head wanted message source from missing first steps out₀
+  Again = Head wanted message source missing first steps out₀
 
   abbrev Holds : Found → Type 0
   Holds r = chunkAt (decoderReadsRgba (channelsNumber source)) (drop at message) ≡ foundOf r
@@ -234,14 +227,14 @@ module _ {wanted : ℕ} {message : List ℕ} {source : Channels} {from missing :
 
   -- the loop ends: none is left, or no pixel is missing
   pub ends-bound :
-      bound ≤ done → (header : Header) → Of source missing from header
-      → walking header wanted message from steps first out₀ ≡ standing (limit - done) here out
+      bound ≤ done → (from : ℕ) (header : Header) → Of source missing from header
+      → walking header wanted message from steps (first from) out₀ ≡ standing (limit - done) (here from) out
   unfolding walking
-  ends-bound over header of = h .whole header of ∙ go (limit - done) refl
+  ends-bound over from header of = h .whole from header of ∙ go (limit - done) refl
     where
-      go : (n : ℕ) → limit - done ≡ n → walking header wanted message from n here out ≡ standing n here out
+      go : (n : ℕ) → limit - done ≡ n → walking header wanted message from n (here from) out ≡ standing n (here from) out
       go zero e = refl
-      go (suc n) e = standing-still header wanted message from (suc n) here out (omega (arith, h .bounded, of .counted))
+      go (suc n) e = standing-still header wanted message from (suc n) (here from) out (omega (arith, h .bounded, of .counted))
 
   module _ (turn : done < bound) where
     left-here : done < missing
@@ -263,12 +256,12 @@ module _ {wanted : ℕ} {message : List ℕ} {source : Channels} {from missing :
 
     -- a chunk that is cut short
     pub ends-cut :
-        Holds found.Cut → (header : Header) → Of source missing from header
-        → walking header wanted message from steps first out₀ ≡ stopped (limit - done) here out
+        Holds found.Cut → (from : ℕ) (header : Header) → Of source missing from header
+        → walking header wanted message from steps (first from) out₀ ≡ stopped (limit - done) (here from) out
     unfolding walking move moveBy
-    ends-cut f header of = h .whole header of ∙ go (limit - done) refl
+    ends-cut f from header of = h .whole from header of ∙ go (limit - done) refl
       where
-        go : (n : ℕ) → limit - done ≡ n → walking header wanted message from n here out ≡ stopped n here out
+        go : (n : ℕ) → limit - done ≡ n → walking header wanted message from n (here from) out ≡ stopped n (here from) out
         go zero e = absurd (omega (arith, e, h .bounded))
         go (suc n) e = rw (lt-ltb (from + done) (pixelCount header) (omega (arith, left-here, of .counted)), of .sourced, f)
 
@@ -276,9 +269,9 @@ module _ {wanted : ℕ} {message : List ℕ} {source : Channels} {from missing :
     module _ (k : Chunk) (n q : ℕ) (slots′ : List Pixel) (out′ : List ℕ)
         (s : Step wanted message source missing out slots current at done k n (unpacked q) slots′ out′) where
       advance :
-          length slots′ ≡ 64 → (limit′ : ℕ) → limit′ + 1 ≡ limit + n → (bound′ : ℕ) → bound′ ≡ min limit′ missing
+          (limit′ : ℕ) → limit′ + 1 ≡ limit + n → (bound′ : ℕ) → bound′ ≡ min limit′ missing
           → Again out′ slots′ (unpacked q) (at + sizeOf k) (done + n) limit′ bound′
-      advance long limit′ on bound′ bounds =
+      advance limit′ on bound′ bounds =
           let ahead-of : done < limit = omega (arith, h .bounded) in
           let count : limit - done ≡ suc (limit′ - (done + n)) = omega (arith, ahead-of, some s) in
           record {
@@ -291,18 +284,16 @@ module _ {wanted : ℕ} {message : List ℕ} {source : Channels} {from missing :
             inside = inside s (h .inside);
             room = rw (same s) (h .room);
             same-length = same s ∙ h .same-length;
-            long = long;
-            whole = λ header of. h .whole header of ∙ rw (count) (goes-on s from header of (limit′ - (done + n)));
+            whole = λ from header of. h .whole from header of ∙ rw count (goes-on s from header of (limit′ - (done + n)));
           }
 
     -- what the loop wrote, as a step
     module _ (n q : ℕ) (out′ : List ℕ) (written : out′ ≡ pasted (done * wanted) (repeated n (take wanted (unpacked q .rgba))) out) where
       pub after-index :
-          (slot : ℕ) → Holds (found.Index slot) → n ≡ 1 → (none : Pixel) → unpacked q ≡ decoderKeeps wanted (getD slots slot none)
+          (slot : ℕ) → Holds (found.Index slot) → n ≡ 1 → unpacked q ≡ decoderKeeps wanted (getD slots slot clearPixel)
           → Again out′ slots (unpacked q) (at + 1) (done + 1) limit bound
       unfolding colourOf timesOf sizeOf decoderStores
-      after-index slot f once none is =
-          let same-slot : getD slots slot clearPixel ≡ getD slots slot none = getD-any slots slot clearPixel none (omega (arith, index-within slot f, h .long)) in
+      after-index slot f once is =
           subst (λ (m : ℕ). Again out′ slots (unpacked q) (at + 1) (done + m) limit bound) once
           (advance (INDEX slot) n q slots out′
           (record {
@@ -312,11 +303,11 @@ module _ {wanted : ℕ} {message : List ℕ} {source : Channels} {from missing :
             found = f;
             often = omega (arith, left-here);
             four = four-long q;
-            keeps = ap (decoderKeeps wanted) same-slot ∙ sym is;
+            keeps = sym is;
             stores = refl;
             written = written;
           })
-          (h .long) limit (omega arith) bound (h .bounded))
+          limit (omega arith) bound (h .bounded))
 
       pub after-run :
           (times : ℕ) → Holds (found.Run times) → n ≡ min times (missing - done) → unpacked q ≡ decoderKeeps wanted current
@@ -336,7 +327,7 @@ module _ {wanted : ℕ} {message : List ℕ} {source : Channels} {from missing :
             stores = refl;
             written = written;
           })
-          (h .long) limit′ (omega (arith, on, run-some times n f turn often)) bound′ bounds
+          limit′ (omega (arith, on, run-some times n f turn often)) bound′ bounds
 
       pub after-colour :
           (c : Colour) → Holds (found.Colour c) → n ≡ 1 → unpacked q ≡ decoderKeeps wanted (colourOf [] current (chunkOf c))
@@ -359,4 +350,4 @@ module _ {wanted : ℕ} {message : List ℕ} {source : Channels} {from missing :
             stores = rw (colour-stores c);
             written = written;
           })
-          (length-set slots (slotOf (unpacked q)) (unpacked q) ∙ h .long) limit (omega arith) bound (h .bounded))
+          limit (omega arith) bound (h .bounded))

@@ -1,8 +1,9 @@
--- A packed pixel and its alpha, taken out of it: what a chunk of colour makes of both.
+-- A packed pixel and its alpha, taken out of it: what a chunk of colour makes of both; and packed pixels in slots.
 -- Assumes nothing.
-use mathlib.Core.Path.{_≡_, refl, _∙_, ap}
-use mathlib.Core.List.{[]}
-use Prim.Native.Nat.{ℕ, _/_, _%_}
+use mathlib.Core.Path.{_≡_, refl, sym, _∙_, ap}
+use mathlib.Core.List.{List, [], _∷_, map}
+use Prim.Native.Nat.{ℕ, zero, suc, _/_, _%_}
+use lib.ListN.{getD, set, List·getD-map}
 use Rattle.pixel.specs.declared.Pixel.{Pixel}
 use Rattle.pixel.specs.Colour.{alpha, clearPixel, pixelOf, withAlpha}
 use Rattle.pixel.specs.Packed.{unpacked}
@@ -48,3 +49,14 @@ module _ (p a q a′ : ℕ) (c : Colour) (kept : a ≡ alphaIn p)
   -- so the pixel is the one that the chunk makes
   pub recoloured : unpacked q ≡ colourOf [] (unpacked p) (chunkOf c)
   recoloured = made ∙ ap (withAlpha (colourOf [] (unpacked p) (chunkOf c))) new-alpha ∙ made-alpha p c
+
+-- a packed pixel stored is the pixel stored
+pub unpacked-set : (l : List ℕ) (i p : ℕ) → map unpacked (set l i p) ≡ set (map unpacked l) i (unpacked p)
+unpacked-set [] i p = refl
+unpacked-set (x ∷ xs) zero p = refl
+unpacked-set (x ∷ xs) (suc i) p = ap (λ (l : List Pixel). unpacked x ∷ l) (unpacked-set xs i p)
+
+-- and one read is the pixel read
+pub unpacked-slot : (l : List ℕ) (i : ℕ) → unpacked (getD l i 0) ≡ getD (map unpacked l) i clearPixel
+unfolding unpacked
+unpacked-slot l i = sym (List·getD-map unpacked l i 0)

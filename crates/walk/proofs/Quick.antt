@@ -2,17 +2,16 @@
 -- Assumes nothing.
 use mathlib.Core.Path.{_≡_, refl, sym, subst, _∙_, ap, ap₂}
 use mathlib.Core.Bool.{Bool, true, false, cond}
-use mathlib.Core.List.{List, [], _∷_, append-nil, map}
-use Prim.Native.Nat.{ℕ, zero, suc, _+_, _-_, _*_, _/_, _%_, _≤_, _<_, min}
+use mathlib.Core.List.{List, [], append-nil}
+use Prim.Native.Nat.{ℕ, suc, _+_, _-_, _*_, _/_, _%_, _≤_, _<_, min}
 use native.Mathlib.Omega.{arith}
 use lib.Dec.{eqb}
-use lib.ListN.{length, getD, take, drop, set, length-drop, List·getD-map}
+use lib.ListN.{length, getD, take, drop, set, length-drop}
 use lib.Seq.{getD-drop}
 use Rattle.pixel.specs.declared.Pixel.{Pixel}
 use Rattle.pixel.specs.declared.types.Channels.{Channels}
 use Rattle.pixel.specs.declared.types.Channels.the-variants.{Rgba}
 use Rattle.pixel.specs.Colour.{alpha, clearPixel, pixelOf, slotOf, withAlpha}
-use Rattle.pixel.specs.Packed.{unpacked}
 use Rattle.pixel.specs.Types.{channelsNumber}
 use Rattle.rules.specs.Bytes.{pasted, repeated}
 use Rattle.rules.specs.Chunk.{Chunk, chunk, chunkAt, colourOf, shifted, timesOf, sizeOf, INDEX, DIFF, LUMA, RUN, RGB, RGBA}
@@ -21,24 +20,9 @@ use Rattle.rules.proofs.ChunkLaws.{index-row, diff-row, luma-row, run-row, rgb-
 use Rattle.walk.specs.declared.lanes.Lanes.{Lanes}
 use Rattle.walk.specs.declared.spot.Spot.{Spot}
 use Rattle.walk.specs.Lanes.{pixelIn, Narrow, Holds}
-use Rattle.walk.specs.Asked.{Stands, Onward, threeBytes, fourBytes}
+use Rattle.walk.specs.Asked.{Stands, Onward, spotAt, threeBytes, fourBytes}
 use Rattle.walk.proofs.LanesLaws.{also}
 use Rattle.walk.proofs.Loop.{Step, upto, inside, same, goes-on}
-
--- the spot that a loop's locals are
-abbrev pub spotAt : ℕ → ℕ → ℕ → Lanes → Spot
-spotAt at done spare l = record { at = at; done = done; spare = spare; lanes = l }
-
--- a packed pixel stored is the pixel stored
-pub unpacked-set : (l : List ℕ) (i p : ℕ) → map unpacked (set l i p) ≡ set (map unpacked l) i (unpacked p)
-unpacked-set [] i p = refl
-unpacked-set (x ∷ xs) zero p = refl
-unpacked-set (x ∷ xs) (suc i) p = ap (λ (l : List Pixel). unpacked x ∷ l) (unpacked-set xs i p)
-
--- and one read is the pixel read
-pub unpacked-slot : (l : List ℕ) (i : ℕ) → unpacked (getD l i 0) ≡ getD (map unpacked l) i clearPixel
-unfolding unpacked
-unpacked-slot l i = sym (List·getD-map unpacked l i 0)
 
 -- the bytes of a pixel that are written are the first of its four
 pub three-first : (l : Lanes) → threeBytes (pixelIn l) ≡ take 3 (pixelIn l .rgba)
@@ -124,12 +108,14 @@ module _ {wanted : ℕ} {message : List ℕ} {source : Channels} {missing : ℕ}
         let count : base + quota ≡ suc (base + quota′) = omega arith in
         record {
           stands = record {
-            small = h .onward .stands .small;
-            few-steps = omega (arith, h .onward .stands .few-steps);
-            inside = inside s (h .onward .stands .inside);
-            within = upto s;
-            room = rw (same s) (h .onward .stands .room);
-            narrow = narrow;
+            lies = record {
+              small = h .onward .stands .lies .small;
+              few-steps = omega (arith, h .onward .stands .lies .few-steps);
+              inside = inside s (h .onward .stands .lies .inside);
+              within = upto s;
+              room = rw (same s) (h .onward .stands .lies .room);
+              narrow = narrow;
+            };
             kept = ap (decoderKeeps wanted) (sym (s .keeps)) ∙ kept-again wanted (colourOf slots (pixelIn l) k) ∙ s .keeps;
           };
           no-more = omega (arith, h .onward .no-more);
@@ -186,7 +172,7 @@ module _ {wanted : ℕ} {message : List ℕ} {source : Channels} {missing : ℕ}
         again {k = INDEX (getD message at 0)}
         (record {
           few = few;
-          room = h .onward .stands .room;
+          room = h .onward .stands .lies .room;
           left = omega (arith, h .enough);
           found = index-row reads part (omega (arith, five)) (omega (arith, lead)) ∙ ap (λ (b : ℕ). chunk (INDEX b)) lead;
           often = omega (arith, h .enough);
@@ -208,7 +194,7 @@ module _ {wanted : ℕ} {message : List ℕ} {source : Channels} {missing : ℕ}
           again {k = k}
           (record {
             few = few;
-            room = h .onward .stands .room;
+            room = h .onward .stands .lies .room;
             left = omega (arith, h .enough);
             found = found;
             often = rw single (omega (arith, h .enough));
@@ -278,7 +264,7 @@ module _ {wanted : ℕ} {message : List ℕ} {source : Channels} {missing : ℕ}
     run =
         record {
           few = few;
-          room = h .onward .stands .room;
+          room = h .onward .stands .lies .room;
           left = omega (arith, h .enough);
           found = run-row reads part (omega (arith, five)) (omega (arith, lead)) (omega (arith, lead)) ∙ ap (λ (b : ℕ). chunk (RUN (b % 64 + 1))) lead;
           often = omega (arith, often);
@@ -290,9 +276,9 @@ module _ {wanted : ℕ} {message : List ℕ} {source : Channels} {missing : ℕ}
 
     pub after-run-out : Onward wanted message source missing first slots₀ out₀ (spotAt (at + 1) (done + n) (base + quota′) l) slots out′
     unfolding sizeOf
-    after-run-out = moved run (h .onward .stands .narrow) (omega arith) quota′ less
+    after-run-out = moved run (h .onward .stands .lies .narrow) (omega arith) quota′ less
 
     pub after-run :
         quota′ ≤ missing - (done + n) → Head wanted message source missing first slots₀ out₀ base slots out′ (at + 1) (done + n) l quota′
     unfolding sizeOf
-    after-run enough = again run (h .onward .stands .narrow) (omega arith) quota′ less (omega (arith, upto run))
+    after-run enough = again run (h .onward .stands .lies .narrow) (omega arith) quota′ less (omega (arith, upto run))

@@ -1,6 +1,6 @@
--- From a place to the first spot of quick rounds, and from the spot that they reach to a place again.
+-- From a place to the first spot of a walk, and from where the walk came to back to the place's walk.
 -- Assumes nothing.
-use mathlib.Core.Path.{_≡_, sym, subst, _∙_, ap}
+use mathlib.Core.Path.{_≡_, sym, _∙_, ap}
 use mathlib.Core.List.{List}
 use Prim.Native.Nat.{ℕ, _+_, _-_, _≤_}
 use native.Mathlib.Omega.{arith}
@@ -11,80 +11,80 @@ use Rattle.header.proofs.Laws.{pixels-small}
 use Rattle.rules.specs.Decode.{decoderKeeps}
 use Rattle.rules.specs.Reading.{Place}
 use Rattle.walk.specs.declared.lanes.Lanes.{Lanes}
+use Rattle.walk.specs.declared.spot.Reached.{Reached}
 use Rattle.walk.specs.declared.spot.Spot.{Spot}
 use Rattle.walk.specs.Lanes.{Narrow, Holds}
-use Rattle.walk.specs.Asked.{Fits, Of, Stands, Onward, placeIn}
+use Rattle.walk.specs.Asked.{Of, Lies, Stands, Onward, Ends, placeIn, reachedIn, spotAt}
 use Rattle.walk.specs.Walking.{walking, standing}
+use Rattle.walk.proofs.Fitting.{Fits}
 use Rattle.walk.proofs.Loop.{standing-still}
-use Rattle.walk.proofs.Quick.{spotAt}
 
 module _ {header : Header} {wanted : ℕ} {message : List ℕ} {steps : ℕ} {place : Place} {out : List ℕ}
-    (f : Fits header wanted message (place .pixel) steps place out)
-    {missing : ℕ} (counted : missing ≡ pixelCount header - place .pixel)
-    {l : Lanes} (holds : Holds l (place .current)) (kept : decoderKeeps wanted (place .current) ≡ place .current) where
-  abbrev first : Spot
-  first = spotAt (place .at) 0 steps l
+    (f : Fits header wanted message steps place out)
+    {missing : ℕ} (counted : missing ≡ pixelCount header - place .pixel) where
+  of-place : Of (header .channels) missing (place .pixel) header
+  of-place = record { counted = omega (arith, f .within); sourced = λ i. header .channels }
 
-  of-first : Of (header .channels) missing (place .pixel) header
-  of-first = record { counted = omega (arith, f .within); sourced = λ i. header .channels }
+  -- a place within what the header says is a spot that lies there
+  module _ {l : Lanes} (holds : Holds l (place .current)) where
+    pub lies-first : Lies wanted message missing (spotAt (place .at) 0 steps l) out
+    lies-first =
+        record {
+          small = omega (arith, pixels-small header (f .fit));
+          few-steps = omega (arith, f .few-steps, pixels-small header (f .fit));
+          inside = f .inside;
+          within = omega arith;
+          room = rw counted (f .room);
+          narrow = holds .narrow;
+        }
 
-  -- the rounds may begin
-  pub stands-first : Stands wanted message missing first out
-  stands-first =
-      record {
-        small = omega (arith, pixels-small header (f .fit));
-        few-steps = omega (arith, f .few-steps, pixels-small header (f .fit));
-        inside = f .inside;
-        within = omega arith;
-        room = rw counted (f .room);
-        narrow = holds .narrow;
-        kept = ap (decoderKeeps wanted) (holds .is) ∙ kept ∙ sym (holds .is);
-      }
+    -- the rounds may begin where its pixel is one that a chunk leaves
+    pub stands-first :
+        decoderKeeps wanted (place .current) ≡ place .current → Stands wanted message missing (spotAt (place .at) 0 steps l) out
+    stands-first kept =
+        record { lies = lies-first; kept = ap (decoderKeeps wanted) (holds .is) ∙ kept ∙ sym (holds .is) }
 
-  module _ {slots : List Pixel} (same : slots ≡ place .slots) {spot : Spot} {slots′ : List Pixel} {out′ : List ℕ}
-      (o : Onward wanted message (header .channels) missing first slots out spot slots′ out′) where
-    -- the place that they reached
-    abbrev there : Place
-    there = placeIn (place .pixel) spot slots′
+    module _ {slots : List Pixel} (same : slots ≡ place .slots) where
+      place-first : placeIn (place .pixel) (spotAt (place .at) 0 steps l) slots ≡ place
+      place-first =
+          let none : place .pixel + 0 ≡ place .pixel = omega arith in
+          λ i. record { at = place .at; pixel = none i; current = holds .is i; slots = same i }
 
-    place-first : placeIn (place .pixel) first slots ≡ place
-    place-first =
-        let none : place .pixel + 0 ≡ place .pixel = omega arith in
-        λ i. record { at = place .at; pixel = none i; current = holds .is i; slots = same i }
-
-    -- it is one of the same picture
-    pub place-fits : Narrow (spot .lanes) × (place .pixel + spot .done ≤ 400000000)
-    place-fits =
-        (o .stands .narrow, omega (arith, o .stands .within, f .within, pixels-small header (f .fit)))
-
-    module _ {reached : Place} (is : reached ≡ there) where
-      -- what is left to walk there is what was to be walked
-      pub walked :
-          walking header wanted message (place .pixel) (spot .spare) reached out′
+      -- the walk from the first spot is the walk from the place
+      from-first :
+          walking header wanted message (place .pixel) steps (placeIn (place .pixel) (spotAt (place .at) 0 steps l) slots) out
           ≡ walking header wanted message (place .pixel) steps place out
-      walked =
-          ap (λ (p : Place). walking header wanted message (place .pixel) (spot .spare) p out′) is
-          ∙ sym (o .whole (place .pixel) header of-first)
-          ∙ ap (λ (p : Place). walking header wanted message (place .pixel) steps p out) place-first
+      from-first = ap (λ (p : Place). walking header wanted message (place .pixel) steps p out) place-first
 
-      -- with no pixel missing that is nothing
-      pub walked-whole :
-          spot .done ≡ missing
-          → standing (spot .spare) reached out′ ≡ walking header wanted message (place .pixel) steps place out
-      walked-whole all =
-          sym (standing-still header wanted message (place .pixel) (spot .spare) reached out′
-          (omega (arith, f .within, ap (λ (p : Place). p .pixel) is)))
-          ∙ walked
+      -- a walk that ends from there
+      module _ {end : Reached} {slots′ : List Pixel} {out′ : List ℕ}
+          (e : Ends wanted message (header .channels) missing (spotAt (place .at) 0 steps l) slots out end slots′ out′) where
+        pub ends-first : reachedIn (place .pixel) end slots′ out′ ≡ walking header wanted message (place .pixel) steps place out
+        ends-first = sym (e .whole (place .pixel) header of-place) ∙ from-first
 
-      -- the careful loop may go on
-      pub rest-fits : Fits header wanted message (place .pixel) (spot .spare) reached out′
-      rest-fits =
-          subst (λ (p : Place). Fits header wanted message (place .pixel) (spot .spare) p out′) (sym is)
-          (record {
-            fit = f .fit;
-            inside = o .stands .inside;
-            after = omega arith;
-            within = omega (arith, o .stands .within, f .within);
-            few-steps = omega (arith, o .no-more, f .few-steps);
-            room = rw (← counted) (o .stands .room);
-          })
+      module _ {spot : Spot} {slots′ : List Pixel} {out′ : List ℕ}
+          (o : Onward wanted message (header .channels) missing (spotAt (place .at) 0 steps l) slots out spot slots′ out′) where
+        -- with no pixel missing after the rounds nothing is left
+        pub ends-whole :
+            spot .done ≡ missing
+            → standing (spot .spare) (placeIn (place .pixel) spot slots′) out′
+            ≡ walking header wanted message (place .pixel) steps place out
+        ends-whole all =
+            sym (standing-still header wanted message (place .pixel) (spot .spare) (placeIn (place .pixel) spot slots′) out′
+            (omega (arith, f .within)))
+            ∙ sym (o .whole (place .pixel) header of-place) ∙ from-first
+
+        -- a walk that goes on from where the rounds came to, and ends
+        pub ends-after :
+            {end : Reached} {slots″ : List Pixel} {out″ : List ℕ}
+            → Ends wanted message (header .channels) missing spot slots′ out′ end slots″ out″
+            → reachedIn (place .pixel) end slots″ out″ ≡ walking header wanted message (place .pixel) steps place out
+        ends-after e =
+            sym (o .whole (place .pixel) header of-place ∙ e .whole (place .pixel) header of-place) ∙ from-first
+
+  -- where a walk came to is within the picture
+  pub arrives :
+      {spot : Spot} {slots : List Pixel} {out′ : List ℕ} {end : Reached} {slots′ : List Pixel} {out″ : List ℕ}
+      → Ends wanted message (header .channels) missing spot slots out′ end slots′ out″
+      → Narrow (end .spot .lanes) × (place .pixel + end .spot .done ≤ 400000000)
+  arrives e = (e .narrow, omega (arith, e .within, f .within, pixels-small header (f .fit)))

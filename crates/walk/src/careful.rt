@@ -1,4 +1,5 @@
 // The chunks of a decode one by one, each tested for its length: what the quick loops leave.
+ghost use mathlib.Core.List.{map};
 ghost use mathlib.Core.Path.{_≡_};
 ghost use Prim.Native.Nat.{_+_, _*_, _≤_};
 ghost use lib.ListN.{length, take};
@@ -6,58 +7,52 @@ ghost use Rattle.pixel.specs.Packed.{unpacked};
 ghost use Rattle.pixel.specs.Types.{channelsNumber};
 ghost use Rattle.rules.specs.Bytes.{repeated, pasted};
 ghost use Rattle.rules.specs.Decode.{decoderKeeps};
-ghost use Rattle.walk.specs.Walking.{placeOf, walkOf, walking};
-ghost use Rattle.walk.specs.Asked.{Fits};
-use crate::Place;
-use crate::Walked;
+ghost use Rattle.walk.specs.Asked.{Lies, Ends};
 use crate::fill;
+use crate::lanes;
+use crate::spot::Reached;
+use crate::spot::Spot;
 use chunk::Found;
-use header::Header;
 use pixel::packed;
 use pixel::types::Channels;
 
-// At most `steps` chunks from a place, in an output that starts at pixel `from`. `limit` is where `done`
-// would be if each chunk left brought one pixel, so that only a run has to count.
+// The chunks that are left from a spot. `limit` is where `done` would be if each chunk left brought one pixel, so that
+// only a run has to count.
 pub fn careful(
     message: &[u8],
-    header: Header,
     wanted: Channels,
-    from: usize,
-    place: Place,
+    source: Channels,
+    missing: usize,
+    spot: Spot,
+    held: &mut [u32; 64],
     out: &mut [u8],
-    steps: usize,
-) -> Walked
-    requires { ⌜ Fits header (channelsNumber wanted) (now message) from steps (placeOf place) (now out) ⌝ }
-    ensures { λ r. ⌜ walkOf r (now (out .exit)) ≡ walking header (channelsNumber wanted)
-        (now (message .entry)) from steps (placeOf place) (now (out .entry)) ⌝ }
+) -> Reached
+    requires { ⌜ Lies (channelsNumber wanted) (now message) missing spot (now out) ⌝ }
+    ensures { λ r. ⌜ Ends (channelsNumber wanted) (now (message .entry)) source missing
+        spot (map unpacked (now (held .entry))) (now (out .entry))
+        r (map unpacked (now (held .exit))) (now (out .exit)) ⌝ }
 {
-    let source = header.channels;
-    let missing = header.n_pixels() - from;
-    let first = place.current;
-    let mut slots = place.slots;
-    let mut current = packed::of_pixel(first);
-    let mut at = place.at;
-    let mut done = place.pixel - from;
-    let mut limit = done + steps;
+    let first = spot.lanes;
+    let mut current = lanes::join(first);
+    let mut at = spot.at;
+    let mut done = spot.done;
+    let mut limit = done + spot.spare;
     let mut bound = crate::least(limit, missing);
     while done < bound {
         match chunk::read(source, &message[at..]) {
             Found::Cut => {
-                return Walked {
+                return Reached {
                     cut: true,
-                    spare: limit - done,
-                    place: Place {
+                    spot: Spot {
                         at,
-                        pixel: from + done,
-                        current: packed::unpack(current),
-                        slots,
+                        done,
+                        spare: limit - done,
+                        lanes: lanes::of_packed(current),
                     },
                 };
             }
             Found::Index(slot) => {
-                let i = slot as usize;
-                let stored = slots[i];
-                current = keep(wanted, packed::of_pixel(stored));
+                current = keep(wanted, held[slot as usize]);
                 fill(out, wanted, done, 1, current);
                 at += 1;
                 done += 1;
@@ -76,20 +71,19 @@ pub fn careful(
                 let alpha = chunk::alpha(packed::alpha(current), colour);
                 current = keep(wanted, chunk::recolour(current, alpha, colour));
                 let i = packed::slot(current);
-                slots[i] = packed::unpack(current);
+                held[i] = current;
                 fill(out, wanted, done, 1, current);
                 done += 1;
             }
         }
     }
-    Walked {
+    Reached {
         cut: false,
-        spare: limit - done,
-        place: Place {
+        spot: Spot {
             at,
-            pixel: from + done,
-            current: packed::unpack(current),
-            slots,
+            done,
+            spare: limit - done,
+            lanes: lanes::of_packed(current),
         },
     }
 }

@@ -75,27 +75,32 @@ pub fn walk(
     let missing = header.n_pixels() - from;
     let start = place.current;
     let current = packed::of_pixel(start);
-    if !rounds::may_follow(wanted, current) {
-        return careful::careful(message, header, wanted, from, place, out, steps);
-    }
     let slots = place.slots;
     let mut held = slots::hold(slots);
-    let first = Spot {
-        at: place.at,
-        done: 0,
-        spare: steps,
-        lanes: lanes::of_packed(current),
-    };
-    let spot = rounds::rounds(message, wanted, source, missing, first, &mut held, out);
-    let reached = spot::place(from, spot, held);
-    if spot.done == missing {
-        return Walked {
-            cut: false,
-            spare: spot.spare,
-            place: reached,
+    if !rounds::may_follow(wanted, current) {
+        let first = Spot {
+            at: place.at,
+            done: 0,
+            spare: steps,
+            lanes: lanes::of_packed(current),
         };
+        let end = careful::careful(message, wanted, source, missing, first, &mut held, out);
+        return spot::arrived(from, end, held);
     }
-    careful::careful(message, header, wanted, from, reached, out, spot.spare)
+    let at = place.at;
+    let spot = rounds::rounds(
+        message,
+        wanted,
+        source,
+        missing,
+        at,
+        steps,
+        current,
+        &mut held,
+        out,
+    );
+    let end = careful::careful(message, wanted, source, missing, spot, &mut held, out);
+    spot::arrived(from, end, held)
 }
 
 // Does every chunk of a message from its start. Where the input does not fit, it does none.
@@ -120,25 +125,29 @@ pub fn whole(message: &[u8], header: Header, wanted: Channels, out: &mut [u8]) -
         };
     }
     let mut held: [u32; 64] = [0; 64];
-    let first = Spot {
-        at: QOI_HEADER_SIZE,
-        done: 0,
-        spare: missing,
-        lanes: lanes::of_bytes(0, 0, 0, 255),
-    };
-    let spot = rounds::rounds(message, wanted, source, missing, first, &mut held, out);
+    let start = packed::pack(0, 0, 0, 255);
+    let spot = rounds::rounds(
+        message,
+        wanted,
+        source,
+        missing,
+        QOI_HEADER_SIZE,
+        missing,
+        start,
+        &mut held,
+        out,
+    );
     if spot.done == missing {
         return Ended {
             cut: false,
             at: spot.at,
         };
     }
-    let reached = spot::place(0, spot, held);
-    let rest = careful::careful(message, header, wanted, 0, reached, out, spot.spare);
-    let end = rest.place;
+    let end = careful::careful(message, wanted, source, missing, spot, &mut held, out);
+    let last = end.spot;
     Ended {
-        cut: rest.cut,
-        at: end.at,
+        cut: end.cut,
+        at: last.at,
     }
 }
 

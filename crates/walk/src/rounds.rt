@@ -5,32 +5,40 @@ ghost use lib.Dec.{T};
 ghost use Rattle.pixel.specs.Packed.{unpacked};
 ghost use Rattle.pixel.specs.Types.{channelsNumber};
 ghost use Rattle.rules.specs.Decode.{decoderKeeps};
-ghost use Rattle.walk.specs.Asked.{Stands, Onward};
+ghost use Rattle.walk.specs.Asked.{Stands, Onward, Begins, Comes};
 use crate::four;
+use crate::lanes;
 use crate::spot::Spot;
 use crate::three;
 use pixel::packed;
 use pixel::types::Channels;
 
-// As far as every chunk is sure to be whole: to the last pixel or step, if the message has its marker and no ff is
-// stuck.
+// From a byte position and a packed pixel, as far as every chunk is sure to be whole: to the last pixel or step, if the
+// message has its marker and no ff is stuck. Numbers, and no spot, so that a small picture's are handed over in registers.
 pub fn rounds(
     message: &[u8],
     wanted: Channels,
     source: Channels,
     missing: usize,
-    first: Spot,
+    at: usize,
+    spare: usize,
+    current: u32,
     held: &mut [u32; 64],
     out: &mut [u8],
 ) -> Spot
-    requires { ⌜ Stands (channelsNumber wanted) (now message) missing first (now out) ⌝ }
-    ensures { λ r. ⌜ Onward (channelsNumber wanted) (now (message .entry)) source missing
-        first (map unpacked (now (held .entry))) (now (out .entry))
+    requires { ⌜ Begins (channelsNumber wanted) (now message) missing at spare current (now out) ⌝ }
+    ensures { λ r. ⌜ Comes (channelsNumber wanted) (now (message .entry)) source missing
+        at spare current (map unpacked (now (held .entry))) (now (out .entry))
         r (map unpacked (now (held .exit))) (now (out .exit)) ⌝ }
 {
-    let mut spot = first;
-    let mut before = spot.spare + 1;
-    while spot.spare < before {
+    let mut spot = Spot {
+        at,
+        done: 0,
+        spare,
+        lanes: lanes::of_packed(current),
+    };
+    let mut before = spare + 1;
+    while spot.spare < before && spot.done < missing {
         before = spot.spare;
         spot = round(message, wanted, source, missing, spot, held, out);
     }

@@ -1,12 +1,13 @@
 // Where the quick loops stand between two chunks.
-ghost use mathlib.Core.List.{map};
+ghost use mathlib.Core.List.{List, map};
 ghost use mathlib.Core.Path.{_≡_};
-ghost use Prim.Native.Nat.{_+_, _≤_};
+ghost use Prim.Native.Nat.{ℕ, _+_, _≤_};
 ghost use Rattle.pixel.specs.Packed.{unpacked};
 ghost use Rattle.walk.specs.Lanes.{Narrow};
-ghost use Rattle.walk.specs.Walking.{placeOf};
-ghost use Rattle.walk.specs.Asked.{placeIn};
+ghost use Rattle.walk.specs.Walking.{placeOf, walkOf};
+ghost use Rattle.walk.specs.Asked.{placeIn, reachedIn};
 use crate::Place;
+use crate::Walked;
 use crate::lanes;
 use crate::lanes::Lanes;
 use crate::slots;
@@ -22,8 +23,27 @@ pub struct Spot {
     pub lanes: Lanes,
 }
 
+// Where a walk came to, and whether the next chunk is cut short.
+pub struct Reached {
+    pub cut: bool,
+    pub spot: Spot,
+}
+
+// The answer of a walk that began at pixel `from`.
+pub fn arrived(from: usize, end: Reached, held: [u32; 64]) -> Walked
+    requires { ⌜ Narrow (end .spot .lanes) × (from + end .spot .done ≤ 400000000) ⌝ }
+    ensures { λ r. ⌜ ((out : List ℕ) → walkOf r out ≡ reachedIn from end (map unpacked held) out) ⌝ }
+{
+    let spot = end.spot;
+    Walked {
+        cut: end.cut,
+        spare: spot.spare,
+        place: place(from, spot, held),
+    }
+}
+
 // The place of a spot of a walk that began at pixel `from`.
-pub fn place(from: usize, spot: Spot, held: [u32; 64]) -> Place
+fn place(from: usize, spot: Spot, held: [u32; 64]) -> Place
     requires { ⌜ Narrow (spot .lanes) × (from + spot .done ≤ 400000000) ⌝ }
     ensures { λ r. ⌜ placeOf r ≡ placeIn from spot (map unpacked held) ⌝ }
 {

@@ -17,11 +17,12 @@ use Rattle.pixel.specs.Types.{channelsNumber}
 use Rattle.header.specs.Header.{pixelCount}
 use Rattle.rules.specs.Decode.{decoderKeeps}
 use Rattle.rules.specs.Reading.{startPlace}
-use Rattle.walk.specs.Asked.{Fits}
+use Rattle.walk.specs.declared.lanes.Lanes.{Lanes}
 use Rattle.walk.specs.Lanes.{Holds}
 use Rattle.walk.specs.Walking.{endOf, walkingInto}
-use Rattle.walk.proofs.Fitting.{fitted}
-use Rattle.walk.proofs.Reach.{stands-first, walked, walked-whole, place-fits, rest-fits}
+use Rattle.walk.proofs.Fitting.{Fits, fitted}
+use Rattle.walk.proofs.LanesLaws.{also}
+use Rattle.walk.proofs.Reach.{stands-first, ends-whole, ends-after}
 use Rattle.walk.proofs.whole.Statement.{statement}
 use Rattle.walk.proofs.whole.Tie as tie
 
@@ -35,7 +36,10 @@ unfolding walkingInto startPlace
 returns c = rw (← c .before .before .n-pixels .ensures, ← c .before .fits2 .ensures, not-true (c .before .fits2 .result) (c .if1 .taken))
 
 -- the input lies within what the header says
-fit : (c : tie.Else1) → (let a = c .before .before .before .before .before .args in Fits (a .header) (channelsNumber (a .wanted)) (a .message .now) 0 (c .before .before .n-pixels .result) startPlace (a .out .now))
+fit :
+    (c : tie.Else1)
+    → (let a = c .before .before .before .before .before .args in
+    Fits (a .header) (channelsNumber (a .wanted)) (a .message .now) (c .before .before .n-pixels .result) startPlace (a .out .now))
 unfolding startPlace
 fit c =
     let a = c .before .before .before .before .before .args in
@@ -45,9 +49,10 @@ fit c =
 counted : (c : tie.Else1) → c .before .before .n-pixels .result ≡ pixelCount (c .before .before .before .before .before .args .header) - 0
 counted c = omega (arith, c .before .before .n-pixels .ensures)
 
-holds : (c : tie.After-of-bytes) → Holds (c .of-bytes .result) (startPlace .current)
+-- lanes that hold the packed start hold the start
+held-there : (c : tie.After-pack) {l : Lanes} → Holds l (unpacked (c .pack .result)) → Holds l (startPlace .current)
 unfolding startPlace
-holds c = c .of-bytes .ensures
+held-there c holds = also holds (c .pack .ensures)
 
 start-kept : (wanted : Channels) → decoderKeeps (channelsNumber wanted) startPixel ≡ startPixel
 unfolding decoderKeeps
@@ -60,29 +65,24 @@ kept c = start-kept (c .before .before .before .before .before .args .wanted)
 
 rounds-requires : tie.Need-rounds-requires
 unfolding startPlace
-rounds-requires c κs = stands-first (fit (c .before .before .before)) (counted (c .before .before .before)) (holds (c .before .before)) (kept (c .before .before .before))
+rounds-requires c κs =
+    λ l holds. stands-first (fit (c .before .before .before)) (counted (c .before .before .before)) (held-there (c .before .before) holds) (kept (c .before .before .before))
 
 returns-2 : tie.Need-returns-2
 unfolding walkingInto startPlace
 returns-2 c =
     rw (← c .before .before .before .before .before .before .before .before .before .before .n-pixels .ensures, ← c .before .before .before .before .before .before .before .before .before .fits2 .ensures, not-false (c .before .before .before .before .before .before .before .before .before .fits2 .result) (c .before .before .before .before .before .before .before .before .if1 .left))
-    (ap endOf (walked-whole (fit (c .before .before .before .before .before .before .before .before)) (counted (c .before .before .before .before .before .before .before .before)) (holds (c .before .before .before .before .before .before .before)) (kept (c .before .before .before .before .before .before .before .before)) clear-slots (c .before .before .before .before .rounds .ensures) refl (c .if2 .taken)))
-
-place-requires : tie.Need-place-requires
-unfolding startPlace
-place-requires c κs = place-fits (fit (c .before .before .before .before .before .before .before .before)) (counted (c .before .before .before .before .before .before .before .before)) (holds (c .before .before .before .before .before .before .before)) (kept (c .before .before .before .before .before .before .before .before)) clear-slots (c .before .before .before .before .rounds .ensures)
-
-careful-requires : tie.Need-careful-requires
-unfolding startPlace
-careful-requires c κs = rest-fits (fit (c .before .before .before .before .before .before .before .before .before .before)) (counted (c .before .before .before .before .before .before .before .before .before .before)) (holds (c .before .before .before .before .before .before .before .before .before)) (kept (c .before .before .before .before .before .before .before .before .before .before)) clear-slots (c .before .before .before .before .before .before .rounds .ensures) (c .before .place .ensures)
+    (ap endOf
+    (ends-whole (fit (c .before .before .before .before .before .before .before .before)) (counted (c .before .before .before .before .before .before .before .before)) (held-there (c .before .before .before .before .before .before .before) (c .before .before .before .before .rounds .ensures .1)) clear-slots
+    (c .before .before .before .before .rounds .ensures .2) (c .if2 .taken)))
 
 returns-3 : tie.Need-returns-3
 unfolding walkingInto startPlace
 returns-3 c =
     rw (← c .before .before .before .before .before .before .before .before .before .before .before .before .before .before .before .before .n-pixels .ensures, ← c .before .before .before .before .before .before .before .before .before .before .before .before .before .before .before .fits2 .ensures, not-false (c .before .before .before .before .before .before .before .before .before .before .before .before .before .before .before .fits2 .result) (c .before .before .before .before .before .before .before .before .before .before .before .before .before .before .if1 .left))
     (ap endOf
-    (c .before .before .before .careful .ensures
-    ∙ walked (fit (c .before .before .before .before .before .before .before .before .before .before .before .before .before .before)) (counted (c .before .before .before .before .before .before .before .before .before .before .before .before .before .before)) (holds (c .before .before .before .before .before .before .before .before .before .before .before .before .before)) (kept (c .before .before .before .before .before .before .before .before .before .before .before .before .before .before)) clear-slots (c .before .before .before .before .before .before .before .before .before .before .rounds .ensures) (c .before .before .before .before .before .place .ensures)))
+    (ends-after (fit (c .before .before .before .before .before .before .before .before .before .before .before .before .before .before)) (counted (c .before .before .before .before .before .before .before .before .before .before .before .before .before .before)) (held-there (c .before .before .before .before .before .before .before .before .before .before .before .before .before) (c .before .before .before .before .before .before .before .before .before .before .rounds .ensures .1)) clear-slots
+    (c .before .before .before .before .before .before .before .before .before .before .rounds .ensures .2) (c .before .before .before .careful .ensures)))
 
 pub whole-spec : {M : Type 1} → statement M
 whole-spec =
@@ -95,7 +95,6 @@ whole-spec =
     rounds-requires
     (λ c. search needs)
     returns-2
-    place-requires
-    careful-requires
+    (λ c κs. search needs)
     (λ c. search needs)
     returns-3)

@@ -12,7 +12,7 @@ use Rattle.rules.specs.Bytes.{pasted}
 use Rattle.rules.proofs.ChunkLaws.{slot-small}
 use Rattle.walk.specs.Lanes.{pixelIn}
 use Rattle.walk.specs.Asked.{fourBytes}
-use Rattle.walk.proofs.Quick.{unpacked-set}
+use Rattle.walk.proofs.Packed.{unpacked-set}
 use Rattle.walk.proofs.four.keep_four.Statement.{statement}
 use Rattle.walk.proofs.four.keep_four.Tie as tie
 

@@ -11,9 +11,10 @@ use Rattle.pixel.specs.Packed.{unpacked}
 use Rattle.rules.specs.Bytes.{pasted, repeated}
 use Rattle.rules.specs.Decode.{decoderKeeps}
 use Rattle.walk.specs.declared.spot.Spot.{Spot}
-use Rattle.walk.specs.Asked.{fourBytes, Onward}
+use Rattle.walk.specs.Asked.{fourBytes, Onward, spotAt}
 use Rattle.walk.proofs.LanesLaws.{also}
-use Rattle.walk.proofs.Quick.{Head, spotAt, onward-none, spent, unpacked-slot, four-first}
+use Rattle.walk.proofs.Packed.{unpacked-slot}
+use Rattle.walk.proofs.Quick.{Head, onward-none, spent, four-first}
 use Rattle.walk.proofs.Quick.{after-index, after-diff, after-luma, after-rgb, after-rgba, after-run, after-run-out}
 use Rattle.walk.proofs.four.quick_four.Statement.{statement}
 use Rattle.walk.proofs.four.quick_four.Tie as tie
@@ -40,29 +41,31 @@ from-first c spot slots out o =
     (omega (arith, c .before .before .before .least .ensures, c .before .before .least2 .ensures)) o
 
 sub-least : tie.Need-sub-least Inv-loop μ-loop
-sub-least c = omega (arith, c .before .before .before .pre .within, c .before .before .before .pre .inside)
+sub-least c = omega (arith, c .before .before .before .pre .lies .within, c .before .before .before .pre .lies .inside)
 
 sub-least-2 : tie.Need-sub-least-2 Inv-loop μ-loop
-sub-least-2 c = omega (arith, c .before .before .before .before .pre .within, c .before .before .before .before .pre .inside, c .least .ensures)
+sub-least-2 c = omega (arith, c .before .before .before .before .pre .lies .within, c .before .before .before .before .pre .lies .inside, c .least .ensures)
 
 sub-base : tie.Need-sub-base Inv-loop μ-loop
-sub-base c = omega (arith, c .before .before .before .before .before .before .pre .within, c .before .before .before .before .before .before .pre .inside, c .before .before .least .ensures, c .before .least2 .ensures)
+sub-base c = omega (arith, c .before .before .before .before .before .before .pre .lies .within, c .before .before .before .before .before .before .pre .lies .inside, c .before .before .least .ensures, c .before .least2 .ensures)
 
 loop-holds : tie.Need-loop-holds Inv-loop μ-loop
 loop-holds c =
     let p = c .before .before .before .before .before .before .pre in
     record {
-      sure = omega (arith, c .before .before .before .before .before .before .pre .within, c .before .before .before .before .before .before .pre .inside, c .before .before .least .ensures, c .before .least2 .ensures);
-      enough = omega (arith, c .before .before .before .before .before .before .pre .within, c .before .before .before .before .before .before .pre .inside, c .before .before .least .ensures, c .before .least2 .ensures);
+      sure = omega (arith, c .before .before .before .before .before .before .pre .lies .within, c .before .before .before .before .before .before .pre .lies .inside, c .before .before .least .ensures, c .before .least2 .ensures);
+      enough = omega (arith, c .before .before .before .before .before .before .pre .lies .within, c .before .before .before .before .before .before .pre .lies .inside, c .before .before .least .ensures, c .before .least2 .ensures);
       same-length = refl;
       onward = onward-none
           (record {
-            small = p .small;
-            few-steps = omega (arith, p .few-steps, c .before .before .least .ensures, c .before .least2 .ensures);
-            inside = p .inside;
-            within = p .within;
-            room = p .room;
-            narrow = p .narrow;
+            lies = record {
+              small = p .lies .small;
+              few-steps = omega (arith, p .lies .few-steps, c .before .before .least .ensures, c .before .least2 .ensures);
+              inside = p .lies .inside;
+              within = p .lies .within;
+              room = p .lies .room;
+              narrow = p .lies .narrow;
+            };
             kept = p .kept;
           });
     }
@@ -80,16 +83,16 @@ element-copy-out-stored : tie.Need-element-copy-out-stored Inv-loop μ-loop
 element-copy-out-stored c = omega (arith, c .if1 .taken)
 
 mul-put-four : tie.Need-mul-put-four Inv-loop μ-loop
-mul-put-four c = omega (arith, c .before .before .before .before .before .before .loop .inv .enough, c .before .before .before .before .before .before .loop .inv .onward .stands .small, c .before .before .before .before .before .loop-test .taken)
+mul-put-four c = omega (arith, c .before .before .before .before .before .before .loop .inv .enough, c .before .before .before .before .before .before .loop .inv .onward .stands .lies .small, c .before .before .before .before .before .loop-test .taken)
 
 put-four-requires : tie.Need-put-four-requires Inv-loop μ-loop
-put-four-requires c κs = omega (arith, c .before .before .before .before .before .before .loop .inv .enough, c .before .before .before .before .before .before .loop .inv .onward .stands .room, c .before .before .before .before .before .loop-test .taken)
+put-four-requires c κs = omega (arith, c .before .before .before .before .before .before .loop .inv .enough, c .before .before .before .before .before .before .loop .inv .onward .stands .lies .room, c .before .before .before .before .before .loop-test .taken)
 
 add-at : tie.Need-add-at Inv-loop μ-loop
 add-at c = omega (arith, c .before .before .before .before .before .before .before .before .before .loop .inv .sure, c .before .before .before .before .before .before .before .before .loop-test .taken)
 
 add-done : tie.Need-add-done Inv-loop μ-loop
-add-done c = omega (arith, c .before .before .before .before .before .before .before .before .before .loop .inv .enough, c .before .before .before .before .before .before .before .before .before .loop .inv .onward .stands .small, c .before .before .before .before .before .before .before .before .loop-test .taken)
+add-done c = omega (arith, c .before .before .before .before .before .before .before .before .before .loop .inv .enough, c .before .before .before .before .before .before .before .before .before .loop .inv .onward .stands .lies .small, c .before .before .before .before .before .before .before .before .loop-test .taken)
 
 sub-quota : tie.Need-sub-quota Inv-loop μ-loop
 sub-quota c = c .before .before .before .before .before .before .before .before .loop-test .taken
@@ -123,16 +126,16 @@ shared-slice-read-after-rgb-3 : tie.Need-shared-slice-read-after-rgb-3 Inv-loop 
 shared-slice-read-after-rgb-3 c = omega (arith, c .before .before .before .before .before .before .before .before .loop .inv .sure, c .before .before .before .before .before .before .before .loop-test .taken)
 
 after-rgb-requires : tie.Need-after-rgb-requires Inv-loop μ-loop
-after-rgb-requires c κs = c .before .before .before .before .before .before .before .before .loop .inv .onward .stands .narrow
+after-rgb-requires c κs = c .before .before .before .before .before .before .before .before .loop .inv .onward .stands .lies .narrow
 
 keep-four-requires : tie.Need-keep-four-requires Inv-loop μ-loop
-keep-four-requires c κs = (c .before .before .after-rgb .ensures .narrow, omega (arith, c .before .before .before .before .before .before .before .before .before .before .before .loop .inv .enough, c .before .before .before .before .before .before .before .before .before .before .before .loop .inv .onward .stands .room, c .before .before .before .before .before .before .before .before .before .before .loop-test .taken))
+keep-four-requires c κs = (c .before .before .after-rgb .ensures .narrow, omega (arith, c .before .before .before .before .before .before .before .before .before .before .before .loop .inv .enough, c .before .before .before .before .before .before .before .before .before .before .before .loop .inv .onward .stands .lies .room, c .before .before .before .before .before .before .before .before .before .before .loop-test .taken))
 
 add-at-2 : tie.Need-add-at-2 Inv-loop μ-loop
 add-at-2 c = omega (arith, c .before .before .before .before .before .before .before .before .before .before .before .before .before .before .loop .inv .sure, c .before .before .before .before .before .before .before .before .before .before .before .before .before .loop-test .taken)
 
 add-done-2 : tie.Need-add-done-2 Inv-loop μ-loop
-add-done-2 c = omega (arith, c .before .before .before .before .before .before .before .before .before .before .before .before .before .before .loop .inv .enough, c .before .before .before .before .before .before .before .before .before .before .before .before .before .before .loop .inv .onward .stands .small, c .before .before .before .before .before .before .before .before .before .before .before .before .before .loop-test .taken)
+add-done-2 c = omega (arith, c .before .before .before .before .before .before .before .before .before .before .before .before .before .before .loop .inv .enough, c .before .before .before .before .before .before .before .before .before .before .before .before .before .before .loop .inv .onward .stands .lies .small, c .before .before .before .before .before .before .before .before .before .before .before .before .before .loop-test .taken)
 
 sub-quota-2 : tie.Need-sub-quota-2 Inv-loop μ-loop
 sub-quota-2 c = c .before .before .before .before .before .before .before .before .before .before .before .before .before .loop-test .taken
@@ -146,7 +149,7 @@ loop-again-2 c = after-rgb (c .before .before .before .before .before .before .b
     (c .before .before .before .before .before .before .before .before .before .if3 .taken) (c .before .before .before .before .before .after-rgb .ensures)
 
 add-t47 : tie.Need-add-t47 Inv-loop μ-loop
-add-t47 c = omega (arith, c .before .before .before .before .before .before .before .before .loop .inv .onward .stands .few-steps)
+add-t47 c = omega (arith, c .before .before .before .before .before .before .before .before .loop .inv .onward .stands .lies .few-steps)
 
 same-length : tie.Need-same-length Inv-loop μ-loop
 same-length c = c .before .before .before .before .before .before .before .before .loop .inv .same-length
@@ -179,13 +182,13 @@ shared-slice-read-of-bytes-4 : tie.Need-shared-slice-read-of-bytes-4 Inv-loop μ
 shared-slice-read-of-bytes-4 c = omega (arith, c .before .before .before .before .before .before .before .before .before .before .before .before .loop .inv .sure, c .before .before .before .before .before .before .before .before .before .before .before .loop-test .taken)
 
 keep-four-requires-2 : tie.Need-keep-four-requires-2 Inv-loop μ-loop
-keep-four-requires-2 c κs = (c .before .before .of-bytes .ensures .narrow, omega (arith, c .before .before .before .before .before .before .before .before .before .before .before .before .before .before .before .loop .inv .enough, c .before .before .before .before .before .before .before .before .before .before .before .before .before .before .before .loop .inv .onward .stands .room, c .before .before .before .before .before .before .before .before .before .before .before .before .before .before .loop-test .taken))
+keep-four-requires-2 c κs = (c .before .before .of-bytes .ensures .narrow, omega (arith, c .before .before .before .before .before .before .before .before .before .before .before .before .before .before .before .loop .inv .enough, c .before .before .before .before .before .before .before .before .before .before .before .before .before .before .before .loop .inv .onward .stands .lies .room, c .before .before .before .before .before .before .before .before .before .before .before .before .before .before .loop-test .taken))
 
 add-at-3 : tie.Need-add-at-3 Inv-loop μ-loop
 add-at-3 c = omega (arith, c .before .before .before .before .before .before .before .before .before .before .before .before .before .before .before .before .before .before .loop .inv .sure, c .before .before .before .before .before .before .before .before .before .before .before .before .before .before .before .before .before .loop-test .taken)
 
 add-done-3 : tie.Need-add-done-3 Inv-loop μ-loop
-add-done-3 c = omega (arith, c .before .before .before .before .before .before .before .before .before .before .before .before .before .before .before .before .before .before .loop .inv .enough, c .before .before .before .before .before .before .before .before .before .before .before .before .before .before .before .before .before .before .loop .inv .onward .stands .small, c .before .before .before .before .before .before .before .before .before .before .before .before .before .before .before .before .before .loop-test .taken)
+add-done-3 c = omega (arith, c .before .before .before .before .before .before .before .before .before .before .before .before .before .before .before .before .before .before .loop .inv .enough, c .before .before .before .before .before .before .before .before .before .before .before .before .before .before .before .before .before .before .loop .inv .onward .stands .lies .small, c .before .before .before .before .before .before .before .before .before .before .before .before .before .before .before .before .before .loop-test .taken)
 
 sub-quota-3 : tie.Need-sub-quota-3 Inv-loop μ-loop
 sub-quota-3 c = c .before .before .before .before .before .before .before .before .before .before .before .before .before .before .before .before .before .loop-test .taken
@@ -208,28 +211,28 @@ sub-least-4 : tie.Need-sub-least-4 Inv-loop μ-loop
 sub-least-4 c = omega (arith, c .before .before .before .before .before .before .loop .inv .enough)
 
 mul-fill-four : tie.Need-mul-fill-four Inv-loop μ-loop
-mul-fill-four c = omega (arith, c .before .before .before .before .before .before .before .before .loop .inv .enough, c .before .before .before .before .before .before .before .before .loop .inv .onward .stands .small, c .before .before .before .before .before .before .before .loop-test .taken)
+mul-fill-four c = omega (arith, c .before .before .before .before .before .before .before .before .loop .inv .enough, c .before .before .before .before .before .before .before .before .loop .inv .onward .stands .lies .small, c .before .before .before .before .before .before .before .loop-test .taken)
 
 join-requires : tie.Need-join-requires Inv-loop μ-loop
-join-requires c κs = c .before .before .before .before .before .before .before .before .loop .inv .onward .stands .narrow
+join-requires c κs = c .before .before .before .before .before .before .before .before .loop .inv .onward .stands .lies .narrow
 
 fill-four-requires : tie.Need-fill-four-requires Inv-loop μ-loop
-fill-four-requires c κs = (omega (arith, c .before .before .before .before .before .before .before .before .before .loop .inv .enough, c .before .before .before .before .before .before .before .before .before .loop .inv .onward .stands .room, c .before .before .before .before .before .before .before .before .loop-test .taken, c .before .before .before .before .before .if2 .taken, c .before .before .least3 .ensures), omega arith, omega (arith, c .before .before .before .before .before .before .before .before .before .loop .inv .enough, c .before .before .before .before .before .before .before .before .before .loop .inv .onward .stands .room, c .before .before .before .before .before .before .before .before .loop-test .taken, c .before .before .before .before .before .if2 .taken, c .before .before .least3 .ensures))
+fill-four-requires c κs = (omega (arith, c .before .before .before .before .before .before .before .before .before .loop .inv .enough, c .before .before .before .before .before .before .before .before .before .loop .inv .onward .stands .lies .room, c .before .before .before .before .before .before .before .before .loop-test .taken, c .before .before .before .before .before .if2 .taken, c .before .before .least3 .ensures), omega arith, omega (arith, c .before .before .before .before .before .before .before .before .before .loop .inv .enough, c .before .before .before .before .before .before .before .before .before .loop .inv .onward .stands .lies .room, c .before .before .before .before .before .before .before .before .loop-test .taken, c .before .before .before .before .before .if2 .taken, c .before .before .least3 .ensures))
 
 add-at-4 : tie.Need-add-at-4 Inv-loop μ-loop
 add-at-4 c = omega (arith, c .before .before .before .before .before .before .before .before .before .before .before .before .loop .inv .sure, c .before .before .before .before .before .before .before .before .before .before .before .loop-test .taken)
 
 add-done-4 : tie.Need-add-done-4 Inv-loop μ-loop
-add-done-4 c = omega (arith, c .before .before .before .before .before .before .before .before .before .before .before .before .loop .inv .enough, c .before .before .before .before .before .before .before .before .before .before .before .before .loop .inv .onward .stands .small, c .before .before .before .before .before .least3 .ensures)
+add-done-4 c = omega (arith, c .before .before .before .before .before .before .before .before .before .before .before .before .loop .inv .enough, c .before .before .before .before .before .before .before .before .before .before .before .before .loop .inv .onward .stands .lies .small, c .before .before .before .before .before .least3 .ensures)
 
 sub-quota-4 : tie.Need-sub-quota-4 Inv-loop μ-loop
 sub-quota-4 c = c .before .before .before .before .before .before .before .before .before .before .before .loop-test .taken
 
 sub-if5 : tie.Need-sub-if5 Inv-loop μ-loop
-sub-if5 c = omega (arith, c .before .before .before .before .before .before .before .before .before .before .before .before .loop .inv .enough, c .before .before .before .before .before .before .before .before .before .before .before .before .loop .inv .onward .stands .small, c .before .before .before .before .before .least3 .ensures)
+sub-if5 c = omega (arith, c .before .before .before .before .before .before .before .before .before .before .before .before .loop .inv .enough, c .before .before .before .before .before .before .before .before .before .before .before .before .loop .inv .onward .stands .lies .small, c .before .before .before .before .before .least3 .ensures)
 
 add-t72 : tie.Need-add-t72 Inv-loop μ-loop
-add-t72 c = omega (arith, c .before .before .before .before .before .before .before .before .before .before .before .before .before .loop .inv .onward .stands .few-steps)
+add-t72 c = omega (arith, c .before .before .before .before .before .before .before .before .before .before .before .before .before .loop .inv .onward .stands .lies .few-steps)
 
 same-length-2 : tie.Need-same-length-2 Inv-loop μ-loop
 same-length-2 c = c .before .before .before .fill-four .kept .0 ∙ c .before .before .before .before .before .before .before .before .before .before .before .before .before .loop .inv .same-length
@@ -250,16 +253,16 @@ loop-again-4 c = after-run (c .before .before .before .before .before .before .b
     (c .if5 .left)
 
 after-diff-requires : tie.Need-after-diff-requires Inv-loop μ-loop
-after-diff-requires c κs = c .before .before .before .before .before .loop .inv .onward .stands .narrow
+after-diff-requires c κs = c .before .before .before .before .before .loop .inv .onward .stands .lies .narrow
 
 keep-four-requires-3 : tie.Need-keep-four-requires-3 Inv-loop μ-loop
-keep-four-requires-3 c κs = (c .before .before .after-diff .ensures .narrow, omega (arith, c .before .before .before .before .before .before .before .before .loop .inv .enough, c .before .before .before .before .before .before .before .before .loop .inv .onward .stands .room, c .before .before .before .before .before .before .before .loop-test .taken))
+keep-four-requires-3 c κs = (c .before .before .after-diff .ensures .narrow, omega (arith, c .before .before .before .before .before .before .before .before .loop .inv .enough, c .before .before .before .before .before .before .before .before .loop .inv .onward .stands .lies .room, c .before .before .before .before .before .before .before .loop-test .taken))
 
 add-at-5 : tie.Need-add-at-5 Inv-loop μ-loop
 add-at-5 c = omega (arith, c .before .before .before .before .before .before .before .before .before .before .before .loop .inv .sure, c .before .before .before .before .before .before .before .before .before .before .loop-test .taken)
 
 add-done-5 : tie.Need-add-done-5 Inv-loop μ-loop
-add-done-5 c = omega (arith, c .before .before .before .before .before .before .before .before .before .before .before .loop .inv .enough, c .before .before .before .before .before .before .before .before .before .before .before .loop .inv .onward .stands .small, c .before .before .before .before .before .before .before .before .before .before .loop-test .taken)
+add-done-5 c = omega (arith, c .before .before .before .before .before .before .before .before .before .before .before .loop .inv .enough, c .before .before .before .before .before .before .before .before .before .before .before .loop .inv .onward .stands .lies .small, c .before .before .before .before .before .before .before .before .before .before .loop-test .taken)
 
 sub-quota-5 : tie.Need-sub-quota-5 Inv-loop μ-loop
 sub-quota-5 c = c .before .before .before .before .before .before .before .before .before .before .loop-test .taken
@@ -278,16 +281,16 @@ shared-slice-read-after-luma : tie.Need-shared-slice-read-after-luma Inv-loop μ
 shared-slice-read-after-luma c = omega (arith, c .before .before .before .before .before .before .loop .inv .sure, c .before .before .before .before .before .loop-test .taken)
 
 after-luma-requires : tie.Need-after-luma-requires Inv-loop μ-loop
-after-luma-requires c κs = c .before .before .before .before .before .before .loop .inv .onward .stands .narrow
+after-luma-requires c κs = c .before .before .before .before .before .before .loop .inv .onward .stands .lies .narrow
 
 keep-four-requires-4 : tie.Need-keep-four-requires-4 Inv-loop μ-loop
-keep-four-requires-4 c κs = (c .before .before .after-luma .ensures .narrow, omega (arith, c .before .before .before .before .before .before .before .before .before .loop .inv .enough, c .before .before .before .before .before .before .before .before .before .loop .inv .onward .stands .room, c .before .before .before .before .before .before .before .before .loop-test .taken))
+keep-four-requires-4 c κs = (c .before .before .after-luma .ensures .narrow, omega (arith, c .before .before .before .before .before .before .before .before .before .loop .inv .enough, c .before .before .before .before .before .before .before .before .before .loop .inv .onward .stands .lies .room, c .before .before .before .before .before .before .before .before .loop-test .taken))
 
 add-at-6 : tie.Need-add-at-6 Inv-loop μ-loop
 add-at-6 c = omega (arith, c .before .before .before .before .before .before .before .before .before .before .before .before .loop .inv .sure, c .before .before .before .before .before .before .before .before .before .before .before .loop-test .taken)
 
 add-done-6 : tie.Need-add-done-6 Inv-loop μ-loop
-add-done-6 c = omega (arith, c .before .before .before .before .before .before .before .before .before .before .before .before .loop .inv .enough, c .before .before .before .before .before .before .before .before .before .before .before .before .loop .inv .onward .stands .small, c .before .before .before .before .before .before .before .before .before .before .before .loop-test .taken)
+add-done-6 c = omega (arith, c .before .before .before .before .before .before .before .before .before .before .before .before .loop .inv .enough, c .before .before .before .before .before .before .before .before .before .before .before .before .loop .inv .onward .stands .lies .small, c .before .before .before .before .before .before .before .before .before .before .before .loop-test .taken)
 
 sub-quota-6 : tie.Need-sub-quota-6 Inv-loop μ-loop
 sub-quota-6 c = c .before .before .before .before .before .before .before .before .before .before .before .loop-test .taken
