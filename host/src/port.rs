@@ -90,18 +90,23 @@ pub fn header(message: &[u8]) -> Answer {
 /// Bytes written and message bytes used.
 pub fn decode(message: &[u8], wanted: u64, out: &mut [u8]) -> Answer {
     let mut figures = UNWRITTEN;
+    let number = decode_lending(message, wanted, out, &mut figures);
+    Answer { number, figures }
+}
+
+/// The same with the figures lent and not copied: what the call itself costs.
+pub fn decode_lending(message: &[u8], wanted: u64, out: &mut [u8], figures: &mut [u64; 4]) -> u64 {
     // the port reads message[..] alone and writes out[..] and the four figures alone
-    let number = unsafe {
+    unsafe {
         pivotshade_decode(
             message.as_ptr(),
             message.len(),
             wanted,
             out.as_mut_ptr(),
             out.len(),
-            &mut figures,
+            figures,
         )
-    };
-    Answer { number, figures }
+    }
 }
 
 /// Bytes written.

@@ -60,7 +60,7 @@ four-in l = refl
 pub onward-none :
     {wanted : ℕ} {message : List ℕ} {source : Channels} {missing : ℕ} {spot : Spot} {slots : List Pixel} {out : List ℕ}
     → Stands wanted message missing spot out → Onward wanted message source missing spot slots out spot slots out
-onward-none s = record { stands = s; no-more = omega arith; whole = λ from header of. refl }
+onward-none s = record { stands = s; whole = λ from header of. refl }
 
 pub onward-then :
     {wanted : ℕ} {message : List ℕ} {source : Channels} {missing : ℕ} {a b c : Spot} {la lb lc : List Pixel} {oa ob oc : List ℕ}
@@ -69,7 +69,6 @@ pub onward-then :
 onward-then f g =
     record {
       stands = g .stands;
-      no-more = omega (arith, f .no-more, g .no-more);
       whole = λ from header of. f .whole from header of ∙ g .whole from header of;
     }
 
@@ -118,7 +117,6 @@ module _ {wanted : ℕ} {message : List ℕ} {source : Channels} {missing : ℕ}
             };
             kept = ap (decoderKeeps wanted) (sym (s .keeps)) ∙ kept-again wanted (colourOf slots (pixelIn l) k) ∙ s .keeps;
           };
-          no-more = omega (arith, h .onward .no-more);
           whole = λ from header of. h .onward .whole from header of ∙ rw count (goes-on s from header of (base + quota′));
         }
 

@@ -62,7 +62,6 @@ module _ (wanted : ℕ) (message : List ℕ) (source : Channels) (missing : ℕ)
   pub record Onward
       (spot : Spot) (slots : List Pixel) (out : List ℕ) (spot′ : Spot) (slots′ : List Pixel) (out′ : List ℕ) : Type 0 where
     pub stands : Stands wanted message missing spot′ out′
-    pub no-more : spot′ .spare ≤ spot .spare
     pub whole :
         (from : ℕ) (header : Header) → Of source missing from header
         → walking header wanted message from (spot .spare) (placeIn from spot slots) out
