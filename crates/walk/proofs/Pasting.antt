@@ -1,13 +1,16 @@
 -- Bytes put into an output n times over, each part after the last or over its end.
 -- Assumes nothing.
-use mathlib.Core.Path.{_≡_, sym, _∙_, ap}
+use mathlib.Core.Path.{_≡_, refl, sym, _∙_, ap}
 use mathlib.Core.List.{List, _++_, append-assoc, append-nil}
-use Prim.Native.Nat.{ℕ, zero, suc, _+_, _-_, _*_, _≤_}
+use Prim.Native.Nat.{ℕ, zero, suc, _+_, _-_, _*_, _≤_, _<_}
 use native.Mathlib.Nat.{mul-le-mul-right, zero-add, suc-add}
+use native.Mathlib.Decide.{decLe}
 use native.Mathlib.Omega.{arith}
 use lib.ListN.{length}
+use Rattle.pixel.specs.Packed.{unpacked}
 use Rattle.rules.specs.Bytes.{pasted, repeated}
 use Rattle.rules.proofs.PastingLaws.{before-pasted, beyond-pasted, length-pasted, pasted-next, pasted-none, repeated-length}
+use Rattle.walk.specs.Asked.{fourBytes, Fills, FillsOnce}
 
 -- i times over, then k times
 repeated-add : (i k : ℕ) (bytes : List ℕ) → repeated (i + k) bytes ≡ repeated i bytes ++ repeated k bytes
@@ -90,3 +93,36 @@ module _ (out : List ℕ) (at : ℕ) (bytes : List ℕ) where
       (i j n : ℕ) {now then : List ℕ} → Filled j now → then ≡ pasted (at + i * length bytes) bytes now
       → (i ≤ j) × (j ≤ n) × (i + 1 ≡ n) × (at + n * length bytes ≤ length out) → Filled n then
   refilled-one i j n = refilled i j 1 n (once bytes)
+
+-- nothing filled
+pub fills-none : (p at end : ℕ) (out : List ℕ) → at ≤ end → Fills p at end out at out
+fills-none p at end out h =
+    let filled = filled-none out at (fourBytes (unpacked p)) 0 (omega arith) in
+    record { times = 0; on = omega arith; within = h; filled = filled }
+
+-- two fills, the second from where the first ends
+pub fills-on :
+    {p at far mid from end to : ℕ} {out now then : List ℕ} (further : ℕ)
+    → Fills p at far out mid now → Fills p from end now to then
+    → (mid ≡ from) × (to ≡ further) × (end ≤ length out) → Fills p at end out further then
+fills-on {p} {at} {from = from} {out = out} further f g h =
+    let i = f .times in
+    let n = i + g .times in
+    let bytes = fourBytes (unpacked p) in
+    let whole = refilled-from out at bytes from i i _ n refl (f .filled) (g .filled) (omega arith) (omega arith) in
+    record { times = n; on = omega arith; within = omega arith; filled = whole }
+
+-- of n pixels all are filled where less than one is left
+pub fills-all :
+    {p at end to : ℕ} {out now : List ℕ} (n : ℕ) → Fills p at end out to now → (end ≡ at + n * 4) × (end < to + 4)
+    → Filled out at (fourBytes (unpacked p)) n now
+fills-all {p} {at} {out = out} n f h =
+    f .filled ∙ ap (λ (m : ℕ). pasted at (repeated m (fourBytes (unpacked p))) out) (omega arith)
+
+-- where less than twice the size was left, less than once is left after
+pub once-close : (size at end to : ℕ) → FillsOnce size at end to → end < at + size + size → end < to + size
+once-close size at end to h less = go (decLe (at + size) end)
+  where
+    go : Dec (at + size ≤ end) → end < to + size
+    go (yes fits) = omega (arith, h .0 fits)
+    go (no short) = omega (arith, h .1 (omega arith))

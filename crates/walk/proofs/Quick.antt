@@ -83,16 +83,30 @@ module _ (wanted : ℕ) (message : List ℕ) (source : Channels) (missing : ℕ)
     pub same-length : length out ≡ length out₀
     pub onward : Onward wanted message source missing first slots₀ out₀ (spotAt at done (base + quota) l) slots out
 
--- the loop ends: the quota is spent
-pub spent :
+-- a loop is left with these locals
+abbrev pub LeftWith : ℕ → List ℕ → Channels → ℕ → Spot → List Pixel → List ℕ → ℕ → List Pixel → Lanes → List ℕ → ℕ → ℕ → ℕ → Type 0
+LeftWith wanted message source missing first slots₀ out₀ base slots l out at done quota =
+    Onward wanted message source missing first slots₀ out₀ (spotAt at done (base + quota) l) slots out
+    × (length out ≡ length out₀)
+
+-- as it stood at its head
+pub left-there :
     {wanted : ℕ} {message : List ℕ} {source : Channels} {missing : ℕ}
     {first : Spot} {slots₀ : List Pixel} {out₀ : List ℕ} {base : ℕ}
     {slots : List Pixel} {out : List ℕ} {at done : ℕ} {l : Lanes} {quota : ℕ}
-    → Head wanted message source missing first slots₀ out₀ base slots out at done l quota → quota ≤ 0
-    → Onward wanted message source missing first slots₀ out₀ (spotAt at done base l) slots out
-spent {wanted} {message} {source} {missing} {first} {slots₀} {out₀} {base} {slots} {out} {at} {done} {l} h none =
-    subst (λ (spare : ℕ). Onward wanted message source missing first slots₀ out₀ (spotAt at done spare l) slots out)
-    (omega arith) (h .onward)
+    → Head wanted message source missing first slots₀ out₀ base slots out at done l quota
+    → LeftWith wanted message source missing first slots₀ out₀ base slots l out at done quota
+left-there h = (h .onward, h .same-length)
+
+-- or with locals that are equal to others
+pub left-so :
+    {wanted : ℕ} {message : List ℕ} {source : Channels} {missing : ℕ}
+    {first : Spot} {slots₀ : List Pixel} {out₀ : List ℕ} (base : ℕ)
+    {slots : List Pixel} {l : Lanes} {out out′ : List ℕ} {at at′ done done′ : ℕ} (quota : ℕ) {quota′ : ℕ}
+    → LeftWith wanted message source missing first slots₀ out₀ base slots l out at done quota
+    → out′ ≡ out → at′ ≡ at → done′ ≡ done → quota′ ≡ quota
+    → LeftWith wanted message source missing first slots₀ out₀ base slots l out′ at′ done′ quota′
+left-so base quota left o a d q = rw (o, a, d, q) left
 
 module _ {wanted : ℕ} {message : List ℕ} {source : Channels} {missing : ℕ}
     {first : Spot} {slots₀ : List Pixel} {out₀ : List ℕ} {base : ℕ}

@@ -1,7 +1,7 @@
 -- What the loops' own parts ask of one another; nothing that a public contract cites.
 use mathlib.Core.List.{List, [], _∷_}
 use mathlib.Core.Path.{_≡_}
-use Prim.Native.Nat.{ℕ, _+_, _*_, _≤_}
+use Prim.Native.Nat.{ℕ, _+_, _*_, _≤_, _<_}
 use lib.ListN.{length}
 use Rattle.pixel.specs.declared.Pixel.{Pixel}
 use Rattle.pixel.specs.declared.types.Channels.{Channels}
@@ -9,6 +9,7 @@ use Rattle.pixel.specs.Colour.{red, green, blue, alpha}
 use Rattle.pixel.specs.Packed.{unpacked}
 use Rattle.header.specs.declared.Header.{Header}
 use Rattle.header.specs.Header.{pixelCount}
+use Rattle.rules.specs.Bytes.{pasted, repeated}
 use Rattle.rules.specs.Reading.{Place}
 use Rattle.rules.specs.Decode.{decoderKeeps}
 use Rattle.walk.specs.declared.lanes.Lanes.{Lanes}
@@ -23,6 +24,17 @@ threeBytes p = red p ∷ green p ∷ blue p ∷ []
 
 abbrev pub fourBytes : Pixel → List ℕ
 fourBytes p = red p ∷ green p ∷ blue p ∷ alpha p ∷ []
+
+-- a packed pixel fills an output from `at` to `to`, which is no further than `end`: whole pixels
+pub record Fills (p at end : ℕ) (out : List ℕ) (to : ℕ) (out′ : List ℕ) : Type 0 where
+  pub times : ℕ
+  pub on : to ≡ at + times * 4
+  pub within : to ≤ end
+  pub filled : out′ ≡ pasted at (repeated times (fourBytes (unpacked p))) out
+
+-- `size` bytes are filled once where they fit, and else none
+abbrev pub FillsOnce : ℕ → ℕ → ℕ → ℕ → Type 0
+FillsOnce size at end to = (at + size ≤ end → to ≡ at + size) × (end < at + size → to ≡ at)
 
 -- a header of that source, of a picture with `missing` pixels after the first `from`
 pub record Of (source : Channels) (missing from : ℕ) (header : Header) : Type 0 where

@@ -50,18 +50,14 @@ pub fn quick_four(
             if byte == 254 {
                 l = lanes::after_rgb(l, message[at + 1], message[at + 2], message[at + 3]);
                 keep_four(held, out, done, l);
-                at += 4;
-                done += 1;
+                // In another order than in the other arms: else LLVM gives them one end, and each chunk jumps there.
                 quota -= 1;
+                done += 1;
+                at += 4;
             } else if byte == 255 {
                 match source {
                     Channels::Rgb => {
-                        return Spot {
-                            at,
-                            done,
-                            spare: base + quota,
-                            lanes: l,
-                        };
+                        break;
                     }
                     Channels::Rgba => {
                         l = lanes::of_bytes(
@@ -83,12 +79,7 @@ pub fn quick_four(
                 done += n;
                 quota -= 1;
                 if missing - done < quota {
-                    return Spot {
-                        at,
-                        done,
-                        spare: base + quota,
-                        lanes: l,
-                    };
+                    break;
                 }
             }
         } else if byte < 128 {
@@ -108,7 +99,7 @@ pub fn quick_four(
     Spot {
         at,
         done,
-        spare: base,
+        spare: base + quota,
         lanes: l,
     }
 }

@@ -51,18 +51,14 @@ pub fn quick_three(
             if byte == 254 {
                 l = lanes::of_bytes(message[at + 1], message[at + 2], message[at + 3], 255);
                 keep_three(held, out, done, l);
-                at += 4;
-                done += 1;
+                // In another order than in the other arms: else LLVM gives them one end, and each chunk jumps there.
                 quota -= 1;
+                done += 1;
+                at += 4;
             } else if byte == 255 {
                 match source {
                     Channels::Rgb => {
-                        return Spot {
-                            at,
-                            done,
-                            spare: base + quota,
-                            lanes: l,
-                        };
+                        break;
                     }
                     Channels::Rgba => {
                         l = lanes::of_bytes(message[at + 1], message[at + 2], message[at + 3], 255);
@@ -79,12 +75,7 @@ pub fn quick_three(
                 done += n;
                 quota -= 1;
                 if missing - done < quota {
-                    return Spot {
-                        at,
-                        done,
-                        spare: base + quota,
-                        lanes: l,
-                    };
+                    break;
                 }
             }
         } else if byte < 128 {
@@ -104,7 +95,7 @@ pub fn quick_three(
     Spot {
         at,
         done,
-        spare: base,
+        spare: base + quota,
         lanes: l,
     }
 }

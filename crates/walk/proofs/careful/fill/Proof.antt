@@ -20,9 +20,7 @@ mul-fill-four c =
     omega (arith, asked)
 
 fill-four-requires : tie.Need-fill-four-requires
-fill-four-requires c κs =
-    let asked = rw (c .before .enum-told2 .given .1) at (c .before .before .before .before .pre) in
-    (asked .0, omega arith, asked .1)
+fill-four-requires c κs = rw (c .before .enum-told2 .given .1) at (c .before .before .before .before .pre)
 
 returns : tie.Need-returns
 returns c =

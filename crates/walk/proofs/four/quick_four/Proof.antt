@@ -4,6 +4,7 @@ use mathlib.Core.List.{List, map}
 use mathlib.Core.Path.{refl, sym, subst, _∙_, ap}
 use Prim.Native.Nat.{ℕ, _+_, _-_, _*_}
 use native.Mathlib.Omega.{arith}
+use mathlib.Core.Logic.{⊎-elim}
 use borrow.Author.Needs.{needs}
 use lib.ListN.{getD}
 use Rattle.pixel.specs.declared.Pixel.{Pixel}
@@ -14,7 +15,7 @@ use Rattle.walk.specs.declared.spot.Spot.{Spot}
 use Rattle.walk.specs.Asked.{fourBytes, Onward, spotAt}
 use Rattle.walk.proofs.LanesLaws.{also}
 use Rattle.walk.proofs.Packed.{unpacked-slot}
-use Rattle.walk.proofs.Quick.{Head, onward-none, spent, four-first}
+use Rattle.walk.proofs.Quick.{Head, LeftWith, left-there, left-so, onward-none, four-first}
 use Rattle.walk.proofs.Quick.{after-index, after-diff, after-luma, after-rgb, after-rgba, after-run, after-run-out}
 use Rattle.walk.proofs.four.quick_four.Statement.{statement}
 use Rattle.walk.proofs.four.quick_four.Tie as tie
@@ -131,14 +132,14 @@ after-rgb-requires c κs = c .before .before .before .before .before .before .be
 keep-four-requires : tie.Need-keep-four-requires Inv-loop μ-loop
 keep-four-requires c κs = (c .before .before .after-rgb .ensures .narrow, omega (arith, c .before .before .before .before .before .before .before .before .before .before .before .loop .inv .enough, c .before .before .before .before .before .before .before .before .before .before .before .loop .inv .onward .stands .lies .room, c .before .before .before .before .before .before .before .before .before .before .loop-test .taken))
 
-add-at-2 : tie.Need-add-at-2 Inv-loop μ-loop
-add-at-2 c = omega (arith, c .before .before .before .before .before .before .before .before .before .before .before .before .before .before .loop .inv .sure, c .before .before .before .before .before .before .before .before .before .before .before .before .before .loop-test .taken)
+sub-quota-2 : tie.Need-sub-quota-2 Inv-loop μ-loop
+sub-quota-2 c = c .before .before .before .before .before .before .before .before .before .before .before .before .before .loop-test .taken
 
 add-done-2 : tie.Need-add-done-2 Inv-loop μ-loop
 add-done-2 c = omega (arith, c .before .before .before .before .before .before .before .before .before .before .before .before .before .before .loop .inv .enough, c .before .before .before .before .before .before .before .before .before .before .before .before .before .before .loop .inv .onward .stands .lies .small, c .before .before .before .before .before .before .before .before .before .before .before .before .before .loop-test .taken)
 
-sub-quota-2 : tie.Need-sub-quota-2 Inv-loop μ-loop
-sub-quota-2 c = c .before .before .before .before .before .before .before .before .before .before .before .before .before .loop-test .taken
+add-at-2 : tie.Need-add-at-2 Inv-loop μ-loop
+add-at-2 c = omega (arith, c .before .before .before .before .before .before .before .before .before .before .before .before .before .before .loop .inv .sure, c .before .before .before .before .before .before .before .before .before .before .before .before .before .loop-test .taken)
 
 loop-less-2 : tie.Need-loop-less-2 Inv-loop μ-loop
 loop-less-2 c = omega (arith, c .before .before .before .before .before .before .before .before .before .before .before .before .before .loop-test .taken)
@@ -147,15 +148,6 @@ loop-again-2 : tie.Need-loop-again-2 Inv-loop μ-loop
 unfolding decoderKeeps
 loop-again-2 c = after-rgb (c .before .before .before .before .before .before .before .before .before .before .before .before .before .before .loop .inv) (c .before .before .before .before .before .before .before .before .before .before .before .before .before .loop-test .taken) (omega arith) fourBytes four-first _ _ _ refl _ (c .before .before .keep-four .ensures .0) (c .before .before .keep-four .ensures .1)
     (c .before .before .before .before .before .before .before .before .before .if3 .taken) (c .before .before .before .before .before .after-rgb .ensures)
-
-add-t47 : tie.Need-add-t47 Inv-loop μ-loop
-add-t47 c = omega (arith, c .before .before .before .before .before .before .before .before .loop .inv .onward .stands .lies .few-steps)
-
-same-length : tie.Need-same-length Inv-loop μ-loop
-same-length c = c .before .before .before .before .before .before .before .before .loop .inv .same-length
-
-returns : tie.Need-returns Inv-loop μ-loop
-returns c = from-first (c .before .before .before .before .before .before .before .before) _ _ _ (c .before .before .before .before .before .before .before .before .loop .inv .onward)
 
 add-of-bytes : tie.Need-add-of-bytes Inv-loop μ-loop
 add-of-bytes c = omega (arith, c .before .before .before .before .before .before .before .before .loop .inv .sure, c .before .before .before .before .before .before .before .loop-test .taken)
@@ -217,7 +209,7 @@ join-requires : tie.Need-join-requires Inv-loop μ-loop
 join-requires c κs = c .before .before .before .before .before .before .before .before .loop .inv .onward .stands .lies .narrow
 
 fill-four-requires : tie.Need-fill-four-requires Inv-loop μ-loop
-fill-four-requires c κs = (omega (arith, c .before .before .before .before .before .before .before .before .before .loop .inv .enough, c .before .before .before .before .before .before .before .before .before .loop .inv .onward .stands .lies .room, c .before .before .before .before .before .before .before .before .loop-test .taken, c .before .before .before .before .before .if2 .taken, c .before .before .least3 .ensures), omega arith, omega (arith, c .before .before .before .before .before .before .before .before .before .loop .inv .enough, c .before .before .before .before .before .before .before .before .before .loop .inv .onward .stands .lies .room, c .before .before .before .before .before .before .before .before .loop-test .taken, c .before .before .before .before .before .if2 .taken, c .before .before .least3 .ensures))
+fill-four-requires c κs = (omega (arith, c .before .before .before .before .before .before .before .before .before .loop .inv .enough, c .before .before .before .before .before .before .before .before .before .loop .inv .onward .stands .lies .room, c .before .before .before .before .before .before .before .before .loop-test .taken, c .before .before .before .before .before .if2 .taken, c .before .before .least3 .ensures), omega (arith, c .before .before .before .before .before .before .before .before .before .loop .inv .enough, c .before .before .before .before .before .before .before .before .before .loop .inv .onward .stands .lies .room, c .before .before .before .before .before .before .before .before .loop-test .taken, c .before .before .before .before .before .if2 .taken, c .before .before .least3 .ensures))
 
 add-at-4 : tie.Need-add-at-4 Inv-loop μ-loop
 add-at-4 c = omega (arith, c .before .before .before .before .before .before .before .before .before .before .before .before .loop .inv .sure, c .before .before .before .before .before .before .before .before .before .before .before .loop-test .taken)
@@ -230,18 +222,6 @@ sub-quota-4 c = c .before .before .before .before .before .before .before .befor
 
 sub-if5 : tie.Need-sub-if5 Inv-loop μ-loop
 sub-if5 c = omega (arith, c .before .before .before .before .before .before .before .before .before .before .before .before .loop .inv .enough, c .before .before .before .before .before .before .before .before .before .before .before .before .loop .inv .onward .stands .lies .small, c .before .before .before .before .before .least3 .ensures)
-
-add-t72 : tie.Need-add-t72 Inv-loop μ-loop
-add-t72 c = omega (arith, c .before .before .before .before .before .before .before .before .before .before .before .before .before .loop .inv .onward .stands .lies .few-steps)
-
-same-length-2 : tie.Need-same-length-2 Inv-loop μ-loop
-same-length-2 c = c .before .before .before .fill-four .kept .0 ∙ c .before .before .before .before .before .before .before .before .before .before .before .before .before .loop .inv .same-length
-
-returns-2 : tie.Need-returns-2 Inv-loop μ-loop
-returns-2 c = from-first (c .before .before .before .before .before .before .before .before .before .before .before .before .before) _ _ _
-    (after-run-out (c .before .before .before .before .before .before .before .before .before .before .before .before .before .loop .inv) (c .before .before .before .before .before .before .before .before .before .before .before .before .loop-test .taken) (omega arith) fourBytes four-first _ _ refl (c .before .before .before .before .before .before .before .before .before .if2 .taken) (omega (arith, c .before .before .before .before .before .before .before .before .before .before .before .shared-slice-known2 .given (c .before .before .before .before .before .before .before .before .before .before .before .before .before .loop .at), c .before .before .before .before .before .before .before .before .if3 .left, c .before .before .before .before .before .before .before .if4 .left)) _ (c .before .before .before .before .before .before .least3 .ensures)
-    (c .before .before .before .fill-four .ensures
-    ∙ ap (λ (p : Pixel). pasted (c .before .before .before .before .before .before .before .before .before .before .before .before .before .loop .done * 4) (repeated (c .before .before .before .before .before .before .least3 .result) (fourBytes p)) (c .before .before .before .before .before .before .before .before .before .before .before .before .before .loop .out)) (c .before .before .before .before .join .ensures)))
 
 loop-less-4 : tie.Need-loop-less-4 Inv-loop μ-loop
 loop-less-4 c = omega (arith, c .before .before .before .before .before .before .before .before .before .before .before .before .loop-test .taken)
@@ -302,11 +282,40 @@ loop-again-6 : tie.Need-loop-again-6 Inv-loop μ-loop
 loop-again-6 c = after-luma (c .before .before .before .before .before .before .before .before .before .before .before .before .loop .inv) (c .before .before .before .before .before .before .before .before .before .before .before .loop-test .taken) (omega arith) fourBytes four-first _ _ _ refl _ (c .before .before .keep-four4 .ensures .0) (c .before .before .keep-four4 .ensures .1)
     (c .before .before .before .before .before .before .before .if6 .left) (c .before .before .before .before .before .before .before .before .if2 .left) (c .before .before .before .before .before .after-luma .ensures)
 
-same-length-3 : tie.Need-same-length-3 Inv-loop μ-loop
-same-length-3 c = c .before .loop .inv .same-length
+-- how the loop is left: its test fails, an ff is stuck, or a run left fewer pixels
+left :
+    (e : tie.Left-loop Inv-loop μ-loop)
+    → (let a = e .before .before .before .before .before .before .before .before .args in
+    let q = e .before .before .before .least2 .result in
+    let first = spotAt (a .spot .at) (a .spot .done) (a .spot .spare - q + q) (a .spot .lanes) in
+    LeftWith 4 (a .message .now) (a .source) (a .missing) first (map unpacked (a .held .now)) (a .out .now)
+    (a .spot .spare - q) (map unpacked (e .before .loop .held)) (e .before .loop .l)
+    (e .loop-test .out) (e .loop-test .at) (e .loop-test .done) (e .loop-test .quota))
+left e =
+    let b = e .before .before .before .before .before .before .before .before .args .spot .spare - e .before .before .before .least2 .result in
+    let h = e .before .loop .inv in
+    let l = e .before .loop in
+    ⊎-elim (λ w. left-so b (l .quota) (left-there h) (w .1) (w .2) (w .3) (w .4))
+    (⊎-elim (λ w. left-so b (l .quota) (left-there h) (w .8) (w .9) (w .10) (w .11))
+    (λ w.
+    left-so b (l .quota - 1) (
+      after-run-out h (w .0 .taken) (omega arith) fourBytes four-first _ _ refl (w .3 .taken)
+          (omega (arith, w .1 .given (l .at), w .4 .left, w .5 .left)) _ (w .6 .ensures)
+          (w .9 .ensures
+          ∙ ap (λ (p : Pixel). pasted (l .done * 4) (repeated (w .6 .result) (fourBytes p)) (l .out)) (w .8 .ensures)),
+      w .9 .kept .0 ∙ h .same-length,
+    )
+    (w .13) (w .14) (w .15) (w .16)))
+    (e .loop-test .came)
 
-returns-3 : tie.Need-returns-3 Inv-loop μ-loop
-returns-3 c = from-first (c .before) _ _ _ (spent (c .before .loop .inv) (c .loop-test .left))
+add-t15 : tie.Need-add-t15 Inv-loop μ-loop
+add-t15 c = omega (arith, left (c .before) .0 .stands .lies .few-steps)
+
+same-length : tie.Need-same-length Inv-loop μ-loop
+same-length c = left (c .before) .1
+
+returns : tie.Need-returns Inv-loop μ-loop
+returns c = from-first (c .before .before) _ _ _ (left (c .before) .0)
 
 pub quick-four-spec : {M : Type 1} → statement M
 quick-four-spec =
@@ -340,15 +349,12 @@ quick-four-spec =
     shared-slice-read-after-rgb-3
     after-rgb-requires
     keep-four-requires
-    add-at-2
-    add-done-2
     sub-quota-2
+    add-done-2
+    add-at-2
     loop-less-2
     loop-again-2
     (λ c. search needs)
-    add-t47
-    same-length
-    returns
     (λ c. search needs)
     add-of-bytes
     shared-slice-read-of-bytes
@@ -376,9 +382,6 @@ quick-four-spec =
     add-done-4
     sub-quota-4
     sub-if5
-    add-t72
-    same-length-2
-    returns-2
     loop-less-4
     loop-again-4
     after-diff-requires
@@ -397,5 +400,6 @@ quick-four-spec =
     sub-quota-6
     loop-less-6
     loop-again-6
-    same-length-3
-    returns-3)
+    add-t15
+    same-length
+    returns)
