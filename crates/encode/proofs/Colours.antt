@@ -36,6 +36,17 @@ second-fails c first held second failed = rw (← first, held, ← second, faile
 pub third-decides : {a b c s t u : Bool} → s ≡ a → s ≡ true → t ≡ b → t ≡ true → u ≡ c → u ≡ a && (b && c)
 third-decides first held second also third = rw (← first, held, ← second, also) third
 
+-- the same three in the other order
+pub turned : (a b c : Bool) → c && (b && a) ≡ a && (b && c)
+turned true true true = refl
+turned true true false = refl
+turned true false true = refl
+turned true false false = refl
+turned false true true = refl
+turned false true false = refl
+turned false false true = refl
+turned false false false = refl
+
 -- fe and a colour, as the bytes of one number
 rgb-bytes :
     (p : ℕ) → 254 ∷ p % 256 ∷ p / 256 % 256 ∷ p / 65536 % 256 ∷ [] ≡ unpacked (254 + p % 16777216 * 256) .rgba

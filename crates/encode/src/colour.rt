@@ -79,17 +79,18 @@ fn diff_holds(difference: u8) -> bool
     -2 <= d && d <= 1
 }
 
-// LUMA holds green -32..31 and the other two -8..7 against green.
+// LUMA holds green -32..31 and the other two -8..7 against green. Blue comes first, since it fails most often: a test
+// whose outcome changes often is one that the processor mispredicts.
 fn fits_luma(r: u8, g: u8, b: u8) -> bool
     ensures { λ fits. ⌜ fits ≡ fitsLuma r g b ⌝ }
 {
-    if !luma_holds_green(g) {
+    if !luma_holds(wrapped_difference(b, g)) {
         return false;
     }
     if !luma_holds(wrapped_difference(r, g)) {
         return false;
     }
-    luma_holds(wrapped_difference(b, g))
+    luma_holds_green(g)
 }
 
 fn luma_holds_green(difference: u8) -> bool
