@@ -3,10 +3,10 @@
 use mathlib.Core.Path.{_≡_, refl, sym, _∙_, ap, ap₂}
 use mathlib.Core.Bool.{Bool, true, false, _||_}
 use mathlib.Core.List.{List, [], _∷_, _++_, append-assoc, append-nil}
-use Prim.Native.Nat.{ℕ, suc, _*_, _^_, _≤_, _<_}
+use Prim.Native.Nat.{ℕ, suc, _+_, _-_, _*_, _^_, _≤_, _<_}
 use native.Mathlib.Omega.{arith}
-use borrow.Author.Tests.{eqb-true, le-ltb}
-use lib.Dec.{T, eqb, leb→le}
+use borrow.Author.Tests.{eqb-true, eq-eqb, le-ltb}
+use lib.Dec.{T, eqb, eqb→eq, leb→le}
 use lib.ListN.{length, getD, drop, length-append, length-drop}
 use lib.Seq.{drop-at}
 use Rattle.pixel.specs.declared.error.Error.{Error}
@@ -21,7 +21,7 @@ use Rattle.header.specs.Header.{headerBytes, pixelCount}
 use Rattle.number.proofs.Laws.{read-written, rest-after-written, length-at-least-one, length-at-most-ten, length-one, length-at-most-five}
 use Rattle.header.proofs.Laws.{is-true, both, pixels-small, header-read-back, header-length}
 use Rattle.pixel.specs.Bytes.{pixelFrom, pixelsFrom}
-use Rattle.rules.specs.Step.{State, Typed, headerPasses, wantedPasses, atPasses, pixelPasses, alphaPasses, wellFormed, started, notStarted}
+use Rattle.rules.specs.Step.{State, Typed, headerPasses, wantedPasses, atPasses, pixelPasses, leftPasses, alphaPasses, wellFormed, started, notStarted}
 use Rattle.rules.specs.Record.{pixelsBytes, recordBytes, afterNumber, acceptState, readSlots, readPositions, readWanted, readRecord}
 
 -- a list of four is read back as a pixel, whatever follows
@@ -62,6 +62,7 @@ pub record Formed (s : State) : Type 0 where
   pub wanted-passes : T (wantedPasses s)
   pub at-passes : T (atPasses s)
   pub pixel-passes : T (pixelPasses s)
+  pub left-passes : T (leftPasses s)
   pub alpha-passes : T (alphaPasses s)
 
 -- a state that is well formed passes each
@@ -71,20 +72,30 @@ formed s t =
     let second = both (headerPasses s) _ t .1 in
     let third = both (wantedPasses s) _ second .1 in
     let fourth = both (atPasses s) _ third .1 in
+    let fifth = both (pixelPasses s) _ fourth .1 in
     record {
       header-passes = both (headerPasses s) _ t .0;
       wanted-passes = both (wantedPasses s) _ second .0;
       at-passes = both (atPasses s) _ third .0;
       pixel-passes = both (pixelPasses s) _ fourth .0;
-      alpha-passes = both (pixelPasses s) _ fourth .1;
+      left-passes = both (leftPasses s) _ fifth .0;
+      alpha-passes = both (leftPasses s) _ fifth .1;
     }
 
 -- a state that passes each is well formed
 pub forms : (s : State) → Formed s → T (wellFormed s)
 unfolding wellFormed
 forms s f =
-    rw (is-true (headerPasses s) (f .header-passes), is-true (wantedPasses s) (f .wanted-passes), is-true (atPasses s) (f .at-passes), is-true (pixelPasses s) (f .pixel-passes))
+    rw (is-true (headerPasses s) (f .header-passes), is-true (wantedPasses s) (f .wanted-passes), is-true (atPasses s) (f .at-passes), is-true (pixelPasses s) (f .pixel-passes), is-true (leftPasses s) (f .left-passes))
     (f .alpha-passes)
+
+-- the pixel position and the pixels left of a well-formed state are the pixels
+pub adds-up : (s : State) → T (wellFormed s) → s .place .pixel + s .left ≡ pixelCount (s .header)
+adds-up s well = eqb→eq (s .place .pixel + s .left) (pixelCount (s .header)) (formed s well .left-passes)
+
+-- where they are the pixels the test of them passes
+pub left-adds : (s : State) → s .place .pixel + s .left ≡ pixelCount (s .header) → T (leftPasses s)
+left-adds s e = rw (eq-eqb (s .place .pixel + s .left) (pixelCount (s .header)) e) tt
 
 -- wanted 3 or 4 is a channel count, and its number is wanted again
 wanted-channels : (wanted : ℕ) → T (eqb wanted 3 || eqb wanted 4) → (c : Channels) × (channelsFrom wanted ≡ channels-read.Ok c) × (channelsNumber c ≡ wanted)
@@ -153,13 +164,17 @@ module _ (s : State) (typed : Typed s) (well : T (wellFormed s)) where
   none-left : length (drop 260 (s .place .current .rgba ++ pixelsBytes (s .place .slots))) ≡ 0
   none-left = simp length-drop (omega (arith, slots-length))
 
+  -- the pixels left are the others of the picture
+  left-back : pixelCount (s .header) - s .place .pixel ≡ s .left
+  left-back = omega (arith, adds-up s well)
+
   -- the current pixel and the slots are read back
   slots-read :
       readSlots (s .header) (s .wanted) (s .place .at) (s .place .pixel)
       (s .place .current .rgba ++ pixelsBytes (s .place .slots)) ≡ started s
   unfolding readSlots acceptState
   slots-read =
-      rw (le-ltb (length (s .place .current .rgba ++ pixelsBytes (s .place .slots))) 260 (omega (arith, slots-length)), four-read (s .place .current .rgba) (pixelsBytes (s .place .slots)) (typed .current-is), slots-back, none-left, is-true (wellFormed s) well)
+      rw (le-ltb (length (s .place .current .rgba ++ pixelsBytes (s .place .slots))) 260 (omega (arith, slots-length)), four-read (s .place .current .rgba) (pixelsBytes (s .place .slots)) (typed .current-is), slots-back, none-left, left-back, is-true (wellFormed s) well)
 
   -- the positions after wanted are read back
   positions-read : (c : Channels) → channelsNumber c ≡ s .wanted →

@@ -18,15 +18,14 @@ use Rattle.header.specs.Header.{pixelCount}
 use Rattle.rules.specs.Chunk.{Chunk, colourOf}
 use Rattle.rules.specs.Reading.{Answer, refused, Move, sizeWanted, pixelAfter, placeAfter, bytesOf, move}
 use Rattle.rules.specs.Decode.{decoder, decoderKeeps}
-use Rattle.rules.specs.Step.{State, wellFormed, Step, more, end, stepBy, step, steppedOver, runOn, running}
+use Rattle.rules.specs.Step.{State, wellFormed, Step, more, end, movedTo, stepBy, step, steppedOver, runOn, running}
 use Rattle.rules.proofs.ChunkLaws.{Sound}
 use Rattle.rules.proofs.ReadingLaws.{Moved, moved, advances, stays-within}
-use Rattle.rules.proofs.RecordLaws.{formed, forms}
+use Rattle.rules.proofs.RecordLaws.{formed, forms, adds-up, left-adds}
 
 -- the state after a chunk
 abbrev pub nextState : State → Chunk → State
-nextState s k =
-    record { header = s .header; wanted = s .wanted; place = placeAfter decoder (s .header) (s .wanted) (s .place) k }
+nextState s k = movedTo s (placeAfter decoder (s .header) (s .wanted) (s .place) k)
 
 -- the bytes that it writes
 abbrev pub bytesBy : State → Chunk → List ℕ
@@ -92,14 +91,15 @@ pub well-next : (s : State) (k : Chunk) → T (wellFormed s) → T (wellFormed (
 unfolding placeAfter pixelAfter
 well-next s k well =
     let f = formed s well in
+    let within =
+    stays-within decoder (s .header) (s .wanted) (s .place) k (leb→le (s .place .pixel) (pixelCount (s .header)) (f .pixel-passes)) in
     forms (nextState s k)
     (record {
       header-passes = f .header-passes;
       wanted-passes = f .wanted-passes;
       at-passes = le→leb 14 (nextState s k .place .at) (omega (arith, leb→le 14 (s .place .at) (f .at-passes)));
-      pixel-passes =
-          le→leb (nextState s k .place .pixel) (pixelCount (s .header))
-          (stays-within decoder (s .header) (s .wanted) (s .place) k (leb→le (s .place .pixel) (pixelCount (s .header)) (f .pixel-passes)));
+      pixel-passes = le→leb (nextState s k .place .pixel) (pixelCount (s .header)) within;
+      left-passes = left-adds (nextState s k) (omega (arith, adds-up s well));
       alpha-passes = kept-opaque (s .wanted) (colourOf (s .place .slots) (s .place .current) k);
     })
 

@@ -71,9 +71,9 @@ abbrev numberFigures : NumberRead → List ℕ
 numberFigures (number-read.Number value used) = 0 ∷ value ∷ used ∷ 0 ∷ 0 ∷ []
 numberFigures (number-read.Refused e) = refusalFigures e
 
--- a start or a take-up: byte position, pixel position, wanted channels
+-- a start or a take-up: byte position, pixel position, wanted channels, pixels left
 abbrev startFigures : Started → List ℕ
-startFigures (started s) = 0 ∷ s .place .at ∷ s .place .pixel ∷ s .wanted ∷ 0 ∷ []
+startFigures (started s) = 0 ∷ s .place .at ∷ s .place .pixel ∷ s .wanted ∷ s .left ∷ []
 startFigures (notStarted e) = refusalFigures e
 
 -- a record written: its length
@@ -81,9 +81,9 @@ abbrev recordFigures : Recorded → List ℕ
 recordFigures (recorded size) = 0 ∷ size ∷ 0 ∷ 0 ∷ 0 ∷ []
 recordFigures (notRecorded e) = refusalFigures e
 
--- a step: 256 with byte position, pixel position and wanted channels, or its end's answer
+-- a step: 256 with byte position, pixel position, wanted channels and pixels left, or its end's answer
 abbrev stepFigures : Step → List ℕ
-stepFigures (Step.more s bytes) = 256 ∷ s .place .at ∷ s .place .pixel ∷ s .wanted ∷ 0 ∷ []
+stepFigures (Step.more s bytes) = 256 ∷ s .place .at ∷ s .place .pixel ∷ s .wanted ∷ s .left ∷ []
 stepFigures (Step.end answer) = answerFigures answer
 
 -- a number and its figures, zeros after them up to four
@@ -98,9 +98,9 @@ accepted figures = answer 0 figures
 abbrev pub refusal : ℕ → List ℕ → List ℕ
 refusal number figures = answer number figures
 
--- a step with more to do answers 256 and the next state's byte position, pixel position and wanted channels
-abbrev pub onward : ℕ → ℕ → ℕ → List ℕ
-onward at pixel wanted = answer 256 (at ∷ pixel ∷ wanted ∷ [])
+-- a step with more to do answers 256 and the next state's byte position, pixel position, wanted channels, pixels left
+abbrev pub onward : ℕ → ℕ → ℕ → ℕ → List ℕ
+onward at pixel wanted left = answer 256 (at ∷ pixel ∷ wanted ∷ left ∷ [])
 
 -- bytes of an output that were not written
 abbrev pub held : ℕ → List ℕ
@@ -151,14 +151,21 @@ abbrev pub leaves : ℕ → ℕ → Channels → ℕ → List ℕ → List ℕ �
 leaves width height channels wanted body =
     leavesAfter (headed width height channels body) wanted (width * height * wanted)
 
--- a state with empty slots: header, wanted, byte position, pixel position, the alpha of a black current pixel
-abbrev pub stateAt : ℕ → ℕ → Channels → ℕ → ℕ → ℕ → ℕ → State
-stateAt width height channels wanted at pixel alpha =
+-- a made-up state with empty slots: header, wanted, byte position, pixel position, pixels left, the alpha of a black
+-- current pixel
+abbrev pub stateLeft : ℕ → ℕ → Channels → ℕ → ℕ → ℕ → ℕ → ℕ → State
+stateLeft width height channels wanted at pixel left alpha =
     record {
       header = headerWith width height channels;
       wanted = wanted;
       place = record { at = at; pixel = pixel; current = pixelOf 0 0 0 alpha; slots = replicate 64 clearPixel };
+      left = left;
     }
+
+-- the same with as many pixels left as the picture has from its pixel position on
+abbrev pub stateAt : ℕ → ℕ → Channels → ℕ → ℕ → ℕ → ℕ → State
+stateAt width height channels wanted at pixel alpha =
+    stateLeft width height channels wanted at pixel (width * height - pixel) alpha
 
 -- the state at the start of a picture
 abbrev pub stateFrom : ℕ → ℕ → Channels → ℕ → State

@@ -8,7 +8,7 @@ use Rattle.pixel.specs.declared.types.Channels.the-variants.{Rgb, Rgba}
 use Rattle.rules.specs.Bytes.{repeated}
 use Rattle.rules.specs.Reading.{marker}
 use Rattle.rules.specs.Record.{recordBytes}
-use Rattle.rules.specs.Case.{Case, streams, encodesInto, decodesInto, documentsInto, opens, checks, traces, fills, starts, stepsOn, counts, countsBack, records, readsBack, takesUp, differ, accepted, refusal, onward, held, rgb, rgba, headed, message, encodes, decodes, documents, reads, leaves, stateAt, stateFrom, stateAfter, holds, allHold}
+use Rattle.rules.specs.Case.{Case, streams, encodesInto, decodesInto, documentsInto, opens, checks, traces, fills, starts, stepsOn, counts, countsBack, records, readsBack, takesUp, differ, accepted, refusal, onward, held, rgb, rgba, headed, message, encodes, decodes, documents, reads, leaves, stateLeft, stateAt, stateFrom, stateAfter, holds, allHold}
 
 -- black pixels of three channels
 abbrev black : ℕ → List ℕ
@@ -437,10 +437,10 @@ steps =
     starts (wrongMagic 5 9) 300 (refusal 2 (5 ∷ []))
     -- then 2, capped at 255
     ∷ starts (headed 1 1 Rgb []) 300 (refusal 2 (255 ∷ []))
-    -- byte position 14, pixel position 0, the wanted channels
-    ∷ starts (headed 1 1 Rgb []) 4 (accepted (14 ∷ 0 ∷ 4 ∷ []))
+    -- byte position 14, pixel position 0, the wanted channels, every pixel left
+    ∷ starts (headed 1 1 Rgb []) 4 (accepted (14 ∷ 0 ∷ 4 ∷ 1 ∷ []))
     -- its header is the message's
-    ∷ starts (blackStream 1) 3 (accepted (14 ∷ 0 ∷ 3 ∷ []))
+    ∷ starts (blackStream 1) 3 (accepted (14 ∷ 0 ∷ 3 ∷ 1 ∷ []))
     -- a state is well formed if the header passes its own test: else 9, before 7
     ∷ stepsOn (stateAt 20000 20001 Rgb 3 14 0 255) [] 0 (refusal 9 []) []
     -- and has a pixel
@@ -451,6 +451,12 @@ steps =
     ∷ stepsOn (stateAt 1 1 Rgb 3 13 0 255) [] 0 (refusal 9 []) []
     -- pixel position at most the pixels
     ∷ stepsOn (stateAt 1 1 Rgb 3 14 2 255) [] 0 (refusal 9 []) []
+    -- it and the pixels left add up to the pixels: one too few
+    ∷ stepsOn (stateLeft 3 1 Rgb 3 14 1 1 255) [] 0 (refusal 9 []) []
+    -- one too many
+    ∷ stepsOn (stateLeft 3 1 Rgb 3 14 1 3 255) [] 0 (refusal 9 []) []
+    -- the pixels left as at the start
+    ∷ stepsOn (stateLeft 1 1 Rgb 3 15 1 1 255) (message 1 1 Rgb (0xc0 ∷ [])) 3 (refusal 9 []) (held 3)
     -- the fourth byte is 255 when wanted is 3
     ∷ stepsOn (stateAt 1 1 Rgb 3 14 0 254) [] 0 (refusal 9 []) []
     -- then 7, before the byte position
@@ -460,12 +466,14 @@ steps =
     -- also with no pixel left
     ∷ stepsOn (stateAt 1 1 Rgb 3 largest 1 255) (message 1 1 Rgb (0xc0 ∷ [])) 3 (refusal 1 []) (held 3)
     -- a chunk is written from the pixel position on
-    ∷ stepsOn (stateAt 3 1 Rgb 3 14 1 255) (headed 3 1 Rgb (0xfe ∷ 1 ∷ 2 ∷ 3 ∷ [])) 9 (onward 18 2 3)
+    ∷ stepsOn (stateAt 3 1 Rgb 3 14 1 255) (headed 3 1 Rgb (0xfe ∷ 1 ∷ 2 ∷ 3 ∷ [])) 9 (onward 18 2 3 1)
     (held 3 ++ (rgb 1 2 3 ++ held 3))
+    -- a run longer than the pixels left leaves none
+    ∷ stepsOn (stateAt 3 1 Rgb 3 14 1 255) (headed 3 1 Rgb (0xfd ∷ [])) 9 (onward 15 3 3 0) (held 3 ++ replicate 6 0)
     -- with no pixel left the marker test ends, and writes nothing
     ∷ stepsOn (stateAt 1 1 Rgb 3 15 1 255) (message 1 1 Rgb (0xc0 ∷ [])) 3 (accepted (3 ∷ 23 ∷ [])) (held 3)
     -- one pixel for an unconsumed ff; with wanted 4 the fourth byte may be 7
-    ∷ stepsOn (stateAt 2 1 Rgb 4 14 0 7) (headed 2 1 Rgb (0xff ∷ replicate 7 0)) 8 (onward 14 1 4)
+    ∷ stepsOn (stateAt 2 1 Rgb 4 14 0 7) (headed 2 1 Rgb (0xff ∷ replicate 7 0)) 8 (onward 14 1 4 1)
     (rgba 0 0 0 7 ++ held 4)
     ∷ []
 
@@ -496,14 +504,16 @@ recordRows =
     ∷ records (stateFrom 1 1 Rgb 5) 276 (refusal 9 []) (held 276)
     -- 9 where there is room, too: nothing is written
     ∷ records (stateFrom 1 1 Rgb 5) 277 (refusal 9 []) (held 277)
+    -- also where the pixels left do not add up
+    ∷ records (stateLeft 3 1 Rgb 3 14 1 3 255) 277 (refusal 9 []) (held 277)
     -- then 7: required is its length
     ∷ records (stateFrom 1 1 Rgb 3) 276 (refusal 7 (276 ∷ 277 ∷ [])) (held 276)
     -- reading back gives the same state
-    ∷ readsBack startRecord (accepted (14 ∷ 0 ∷ 3 ∷ []))
+    ∷ readsBack startRecord (accepted (14 ∷ 0 ∷ 3 ∷ 1 ∷ []))
     -- also in the middle of A B A A B
-    ∷ readsBack (recordBytes (stateAfter 2 5 1 Rgb 3 chunksABAAB)) (accepted (22 ∷ 2 ∷ 3 ∷ []))
+    ∷ readsBack (recordBytes (stateAfter 2 5 1 Rgb 3 chunksABAAB)) (accepted (22 ∷ 2 ∷ 3 ∷ 3 ∷ []))
     -- also with wanted 4
-    ∷ readsBack (recordBytes (stateFrom 1 1 Rgb 4)) (accepted (14 ∷ 0 ∷ 4 ∷ []))
+    ∷ readsBack (recordBytes (stateFrom 1 1 Rgb 4)) (accepted (14 ∷ 0 ∷ 4 ∷ 1 ∷ []))
     -- reading goes left to right: a header cut short is 1
     ∷ readsBack (take 13 startRecord) (refusal 1 [])
     -- header as above

@@ -2,7 +2,7 @@
 -- The order of refusals reads from the bottom up: the last definition of it makes the first test.
 use mathlib.Core.Bool.{cond}
 use mathlib.Core.List.{List, [], _∷_, _++_}
-use Prim.Native.Nat.{ℕ}
+use Prim.Native.Nat.{ℕ, _-_}
 use lib.Dec.{ltb, eqb}
 use lib.ListN.{length, drop}
 use Rattle.pixel.specs.declared.Pixel.{Pixel}
@@ -17,7 +17,7 @@ use Rattle.number.specs.Seven.{sevenBits, readNumber}
 use Rattle.header.specs.declared.Header.{Header}
 use Rattle.header.specs.declared.HeaderRead.{HeaderRead}
 use Rattle.header.specs.declared.HeaderRead.the-variants as header-read
-use Rattle.header.specs.Header.{headerBytes, headerOf}
+use Rattle.header.specs.Header.{pixelCount, headerBytes, headerOf}
 use Rattle.rules.specs.Bytes.{writtenOver}
 use Rattle.pixel.specs.Bytes.{pixelFrom, pixelsFrom}
 use Rattle.rules.specs.Step.{State, wellFormed, Started, started, notStarted}
@@ -62,10 +62,11 @@ afterNumber bytes (number-read.Refused e) next = notStarted e
 
 -- after the last slot: the other faults of state, 9; extra bytes last, 9
 unfoldable pub acceptState : State → ℕ → Started
-acceptState s left =
-    cond (wellFormed s) (cond (eqb left 0) (started s) (notStarted BadState)) (notStarted BadState)
+acceptState s extra =
+    cond (wellFormed s) (cond (eqb extra 0) (started s) (notStarted BadState)) (notStarted BadState)
 
--- the current pixel and the slots: 260 bytes, cut short is 1
+-- the current pixel and the slots: 260 bytes, cut short is 1. The record does not hold the pixels left: they are the
+-- others of the picture
 unfoldable pub readSlots : Header → ℕ → ℕ → ℕ → List ℕ → Started
 readSlots header wanted at pixel bytes =
     cond (ltb (length bytes) 260) (notStarted UnexpectedBufferEnd)
@@ -79,6 +80,7 @@ readSlots header wanted at pixel bytes =
         current = pixelFrom 4 bytes;
         slots = pixelsFrom 64 4 (drop 4 bytes);
       };
+      left = pixelCount header - pixel;
     })
     (length (drop 260 bytes)))
 

@@ -3,7 +3,7 @@
 use mathlib.Core.Bool.{Bool, cond, not, _&&_, _||_}
 use mathlib.Core.List.{List}
 use mathlib.Core.Path.{_≡_}
-use Prim.Native.Nat.{ℕ, zero, suc, _*_, _^_, _<_}
+use Prim.Native.Nat.{ℕ, zero, suc, _+_, _-_, _*_, _^_, _<_}
 use lib.Dec.{ltb, leb, eqb}
 use lib.ListN.{length, getD}
 use Rattle.pixel.specs.declared.error.Error.{Error}
@@ -20,11 +20,12 @@ use Rattle.rules.specs.Bytes.{pasted}
 use Rattle.rules.specs.Reading.{Place, Answer, refused, Move, startPlace, sizeWanted, move}
 use Rattle.rules.specs.Decode.{decoder}
 
--- header, wanted channels, and the place: byte position, pixel position, current pixel, slots
+-- header, wanted channels, the place (byte position, pixel position, current pixel, slots), and the pixels left
 pub record State : Type 0 where
   pub header : Header
   pub wanted : ℕ
   pub place : Place
+  pub left : ℕ
 
 -- the header passes its own test
 abbrev pub headerPasses : State → Bool
@@ -42,13 +43,18 @@ atPasses s = leb 14 (s .place .at)
 abbrev pub pixelPasses : State → Bool
 pixelPasses s = leb (s .place .pixel) (pixelCount (s .header))
 
+-- pixel position and pixels left add up to the pixels
+abbrev pub leftPasses : State → Bool
+leftPasses s = eqb (s .place .pixel + s .left) (pixelCount (s .header))
+
 -- the current pixel's fourth byte is 255 when wanted is 3
 abbrev pub alphaPasses : State → Bool
 alphaPasses s = not (eqb (s .wanted) 3) || eqb (alpha (s .place .current)) 255
 
--- a state is well formed if it passes all five
+-- a state is well formed if it passes all six
 unfoldable pub wellFormed : State → Bool
-wellFormed s = headerPasses s && (wantedPasses s && (atPasses s && (pixelPasses s && alphaPasses s)))
+wellFormed s =
+    headerPasses s && (wantedPasses s && (atPasses s && (pixelPasses s && (leftPasses s && alphaPasses s))))
 
 -- what the types of a state's parts say by themselves: numbers that fit, four bytes a pixel, 64 slots
 pub record Typed (s : State) : Type 0 where
@@ -64,9 +70,9 @@ pub data Started : Type 0 where
   started : State → Started
   notStarted : Error → Started
 
--- the state before the first chunk
+-- the state before the first chunk: every pixel is left
 abbrev pub startState : Header → ℕ → State
-startState header wanted = record { header = header; wanted = wanted; place = startPlace }
+startState header wanted = record { header = header; wanted = wanted; place = startPlace; left = pixelCount header }
 
 -- 2 for wanted other than 3 or 4; else the start's state
 unfoldable pub startWanted : Header → ChannelsRead → Started
@@ -88,9 +94,19 @@ pub data Step : Type 0 where
   more : State → List ℕ → Step
   end : Answer → Step
 
+-- a state moved on to a place: as many pixels less are left as it brought
+abbrev pub movedTo : State → Place → State
+movedTo s place =
+    record {
+      header = s .header;
+      wanted = s .wanted;
+      place = place;
+      left = s .left - (place .pixel - s .place .pixel);
+    }
+
 -- a move of the decoder as a step
 unfoldable pub stepBy : State → Move → Step
-stepBy s (Move.more place bytes) = more (record { header = s .header; wanted = s .wanted; place = place }) bytes
+stepBy s (Move.more place bytes) = more (movedTo s place) bytes
 stepBy s (Move.end answer) = end answer
 
 -- a step into an output of `room` bytes: 9, 7, then the chunk (a byte position past the message has none: 1)
