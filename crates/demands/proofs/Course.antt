@@ -28,7 +28,7 @@ use Rattle.rules.specs.Step.{State, startState, Typed, alphaPasses, wantedPasse
 use Rattle.rules.proofs.ChunkLaws.{Sound}
 use Rattle.rules.proofs.PlaceLaws.{Shaped, shaped-start, shaped-next, pixel-reached, stays-inside}
 use Rattle.rules.proofs.ReadingLaws.{after-after, remaining-unfolds}
-use Rattle.rules.proofs.RecordLaws.{formed, forms, wanted-few, refused-is-no-start}
+use Rattle.rules.proofs.RecordLaws.{formed, forms, left-adds, wanted-few, refused-is-no-start}
 use Rattle.demands.specs.TakeOver.{bytesBefore}
 use Rattle.rules.proofs.StepLaws.{nextState, bytesBy, moveFrom, needed, well-next}
 
@@ -117,6 +117,7 @@ module _ (m : List ℕ) (w : ℕ) where
               wanted-passes = channels-wanted header c;
               at-passes = tt;
               pixel-passes = le→leb 0 (pixelCount header) zero-le;
+              left-passes = left-adds (startState header (channelsNumber c)) (omega arith);
               alpha-passes = start-opaque header c;
             });
         typed =

@@ -175,7 +175,7 @@ module _ {m : List ℕ} {w : ℕ} {s f : State} {o b : List ℕ} {since : List (
   pub crash-lives : (r : State) → List·Memᴰ r saved → (o′ : List ℕ) → Torn o since saved o′ → Life m w r o′ o′
   crash-lives r is o′ torn = torn-life m w s o b since f saved (kept h) o′ torn r is
 
-  -- and then the end comes within the pixels missing plus one steps, as the uncut decode's
+  -- and then the end comes within the pixels left plus one steps, as the uncut decode's
   pub crash-ends :
       (r : State) → List·Memᴰ r saved → (o′ : List ℕ) → Torn o since saved o′ → EndsAsUncut m w o′ (running m (stepsLeft r) r o′)
   crash-ends r is o′ torn = take-over (crash-lives r is o′ torn)

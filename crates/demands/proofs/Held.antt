@@ -19,6 +19,7 @@ use Rattle.rules.specs.Step.{State, Step, more, end, step, steppedOver}
 use Rattle.rules.proofs.ChunkLaws.{Sound}
 use Rattle.rules.proofs.PastingLaws.{take-pasted, drop-pasted, beyond-pasted, length-pasted}
 use Rattle.rules.proofs.ReadingLaws.{advances, stays-within}
+use Rattle.rules.proofs.RecordLaws.{adds-up}
 use Rattle.demands.specs.TakeOver.{bytesBefore}
 use Rattle.rules.proofs.StepLaws.{nextState, bytesBy, moveFrom, needed, Kind, not-well, no-room, at-end, by-chunk, kind}
 use Rattle.demands.proofs.Steps.{end-is-not-more, WentOn, went-on}
@@ -65,7 +66,7 @@ module _ (m : List ℕ) (w : ℕ) where
     pub on-course : OnCourse m w s′
     pub holds : Held b o′ s′
     pub further : s .place .pixel < s′ .place .pixel
-    pub same-picture : pixelCount (s′ .header) ≡ pixelCount (s .header)
+    pub fewer : s′ .left < s .left
     pub roomy : needed s′ ≤ length b
     -- what another worker holds stays right
     pub others : (t : State) → OnCourse m w t → Held b o t → Held b o′ t
@@ -153,7 +154,7 @@ module _ (m : List ℕ) (w : ℕ) where
             on-course = goes-on-course m w s on k sound missing moves;
             holds = held-by (nextState s k) refl (rw (reached m w s on k sound missing moves) before-next);
             further = advances decoder (s .header) (s .wanted) (s .place) k (sound .once) missing;
-            same-picture = refl;
+            fewer = omega (arith, advances decoder (s .header) (s .wanted) (s .place) k (sound .once) missing, adds-up s (on .well));
             roomy = omega (arith, held .same-length);
             others = λ t on′ held′. held-by t (same-needed m w t s on′ on) (before-any (bytesBefore t) (held′ .before));
           }

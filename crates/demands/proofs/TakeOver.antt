@@ -11,10 +11,10 @@ use Rattle.header.specs.Header.{pixelCount}
 use Rattle.rules.specs.Reading.{Answer}
 use Rattle.rules.specs.Step.{State, Typed, wellFormed, started, starting, Step, more, end, step, steppedOver, going, ended, runOn, running, outputOf}
 use Rattle.rules.specs.Record.{recordBytes, readRecord}
-use Rattle.rules.proofs.RecordLaws.{record-read-back}
+use Rattle.rules.proofs.RecordLaws.{adds-up, record-read-back}
 use Rattle.demands.specs.TakeOver.{bytesBefore, Life, begun, stepped, taken-up, stepsLeft, EndsAsUncut, runningOn}
 use Rattle.demands.proofs.Steps.{run-adds, run-keeps-before}
-use Rattle.demands.proofs.Course.{OnCourse, within, starts-on-course, starts-at-none}
+use Rattle.demands.proofs.Course.{OnCourse, starts-on-course, starts-at-none}
 use Rattle.demands.proofs.Held.{Held, held-anew, ends-as-uncut, goes-as-uncut}
 
 -- a record of a state on course is read back
@@ -58,22 +58,27 @@ lived {m} {w} (taken-up {s} {s′} {o} {b} life o′ agrees e) = lived-taken-up 
 pub reached-well-formed : {m : List ℕ} {w : ℕ} {s : State} {o b : List ℕ} → Life m w s o b → T (wellFormed s) × Typed s
 reached-well-formed life = let on = lived life .on-course in (on .well, on .typed)
 
+-- its pixel position and its pixels left are the pixels
+pub reached-adds-up :
+    {m : List ℕ} {w : ℕ} {s : State} {o b : List ℕ} → Life m w s o b → s .place .pixel + s .left ≡ pixelCount (s .header)
+reached-adds-up {s = s} life = adds-up s (reached-well-formed life .0)
+
 -- every record that it writes can be read, and gives its state
 pub reached-readable :
     {m : List ℕ} {w : ℕ} {s : State} {o b : List ℕ} → Life m w s o b → readRecord (recordBytes s) ≡ started s
 reached-readable {s = s} life = readable s (lived life .on-course)
 
--- a run of more steps than pixels are missing ends, as the uncut decode
+-- a run of more steps than pixels are left ends, as the uncut decode
 ends-within :
     (m : List ℕ) (w n : ℕ) (s : State) (o b : List ℕ) → OnCourse m w s → Held m w b o s
-    → pixelCount (s .header) < s .place .pixel + n → EndsAsUncut m w b (running m n s o)
+    → s .left < n → EndsAsUncut m w b (running m n s o)
 unfolding running
-ends-within m w zero s o b on held few = absurd (omega (arith, within m w s on))
+ends-within m w zero s o b on held few = absurd (omega arith)
 ends-within m w (suc n) s o b on held few =
     go
     (λ s′ bytes e.
     let next = goes-as-uncut m w b o s on held s′ bytes e in
-    ends-within m w n s′ (steppedOver s bytes o) b (next .on-course) (next .holds) (omega (arith, next .further, next .same-picture)))
+    ends-within m w n s′ (steppedOver s bytes o) b (next .on-course) (next .holds) (omega (arith, next .fewer)))
     (step s m (length o)) refl
   where
     go :
@@ -84,7 +89,7 @@ ends-within m w (suc n) s o b on held few =
         let uncut = ends-as-uncut m w b o s on held answer e in
         (s, rw (← uncut .0, ← uncut .1))
 
--- from every history the end comes within the pixels still missing plus one steps, and is the uncut decode's; so it
+-- from every history the end comes within the pixels left plus one steps, and is the uncut decode's; so it
 -- is with more steps
 pub enough-steps :
     {m : List ℕ} {w : ℕ} {s : State} {o b : List ℕ} → Life m w s o b → (n : ℕ) → stepsLeft s ≤ n

@@ -52,6 +52,7 @@ afterRun =
       header = header;
       wanted = 4;
       place = record { at = 15; pixel = 1; current = startPixel; slots = startPlace .slots };
+      left = 1;
     }
 
 abbrev afterIndex : State
@@ -60,6 +61,7 @@ afterIndex =
       header = header;
       wanted = 4;
       place = record { at = 16; pixel = 2; current = clearPixel; slots = startPlace .slots };
+      left = 0;
     }
 
 pub starts : Life message 4 atStart lent lent

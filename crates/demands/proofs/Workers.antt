@@ -145,6 +145,7 @@ undisturbed m w o₀ o s a =
       stand = before .1;
       within = within m w s (a .on-course);
       further = λ s′ bytes e. goes-as-uncut m w o₀ o s (a .on-course) (a .holds) s′ bytes e .further;
+      nearer = λ s′ bytes e. omega (arith, goes-as-uncut m w o₀ o s (a .on-course) (a .holds) s′ bytes e .fewer);
       ends = ends-as-uncut m w o₀ o s (a .on-course) (a .holds);
     }
 

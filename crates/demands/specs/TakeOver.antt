@@ -1,9 +1,8 @@
 -- Demand 3, take-over: every history of starts, steps and take-ups on one message, and how each must end.
 use mathlib.Core.List.{List}
 use mathlib.Core.Path.{_≡_}
-use Prim.Native.Nat.{ℕ, _+_, _-_, _*_, _^_, _<_}
+use Prim.Native.Nat.{ℕ, _+_, _*_, _^_, _<_}
 use lib.ListN.{length, take}
-use Rattle.header.specs.Header.{pixelCount}
 use Rattle.rules.specs.Bytes.{writtenOver}
 use Rattle.rules.specs.Decode.{decoding}
 use Rattle.rules.specs.Step.{State, started, starting, more, step, steppedOver, Ran, going, ended, running}
@@ -30,9 +29,9 @@ pub data Life (m : List ℕ) (w : ℕ) : State → List ℕ → List ℕ → Typ
       {s s′ : State} {o b : List ℕ} → Life m w s o b → (o′ : List ℕ)
       → take (bytesBefore s) o′ ≡ take (bytesBefore s) o → readRecord (recordBytes s) ≡ started s′ → Life m w s′ o′ o′
 
--- the pixels still missing plus one: the steps within which the end must come
+-- the pixels left plus one: the steps within which the end must come
 abbrev pub stepsLeft : State → ℕ
-stepsLeft s = pixelCount (s .header) - s .place .pixel + 1
+stepsLeft s = s .left + 1
 
 -- A run on an output that was b when it was taken up has ended as the uncut decode into b: with its answer, every
 -- byte that it writes, and after them what b held.

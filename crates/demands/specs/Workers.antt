@@ -11,7 +11,7 @@ use Rattle.rules.specs.Bytes.{writtenOver}
 use Rattle.rules.specs.Decode.{decoding}
 use Rattle.rules.specs.Step.{State, started, starting, more, end, step, steppedOver}
 use Rattle.rules.specs.Record.{recordBytes, readRecord}
-use Rattle.demands.specs.TakeOver.{bytesBefore}
+use Rattle.demands.specs.TakeOver.{bytesBefore, stepsLeft}
 
 -- a step from o to new that stopped inside: each byte is the old one or the new one
 pub record Partly (o new o′ : List ℕ) : Type 0 where
@@ -48,10 +48,11 @@ pub record Undisturbed (m : List ℕ) (w : ℕ) (o₀ : List ℕ) (s : State) (o
   pub reaches : bytesBefore s ≤ length (decoding m w (length o₀) .bytes)
   -- and they stand in the output
   pub stand : take (bytesBefore s) o ≡ take (bytesBefore s) (decoding m w (length o₀) .bytes)
-  -- its pixel is not past the picture, and a step that goes on brings it further, so its own steps are at most the
-  -- pixels missing plus one
+  -- its pixel is not past the picture, and a step that goes on brings it further
   pub within : s .place .pixel ≤ pixelCount (s .header)
   pub further : (s′ : State) (bytes : List ℕ) → step s m (length o) ≡ more s′ bytes → s .place .pixel < s′ .place .pixel
+  -- and leaves fewer steps, so its own steps are at most the pixels left plus one
+  pub nearer : (s′ : State) (bytes : List ℕ) → step s m (length o) ≡ more s′ bytes → stepsLeft s′ < stepsLeft s
   -- its end is the uncut decode's, with the right output
   pub ends :
       (answer : Answer) → step s m (length o) ≡ end answer
