@@ -37,13 +37,13 @@ pub typed : (d : Decoder) (vs : List Val) → Is decoder.the-row d vs → Typed 
 typed d vs is =
     let fields = is .1 .1 in
     let header = fields .0 .1 .1 in
-    let slots = fields .1 .1 .1 .1 .1 .0 in
+    let slots = fields .1 .1 .1 .1 .1 .1 .0 in
     let many : length (d .slots) ≡ 64 = sym (length-map (d .slots) (pixel.the-field .into)) ∙ slots .1 .0 .1 in
     record {
       width-fits = header .0 .1;
       height-fits = header .1 .0 .1;
       at-fits = fields .1 .1 .0 .1;
-      current-is = pixel-four (d .current) _ (fields .1 .1 .1 .1 .0);
+      current-is = pixel-four (d .current) _ (fields .1 .1 .1 .1 .1 .0);
       slots-are = many;
       slot-is = λ i h. slots-four (d .slots) (slots .0) (slots .1 .1) i (omega arith);
     }

@@ -27,15 +27,23 @@ use Rattle.rules.proofs.ChunkLaws.{no-row, Sound, sound-of, sound-found}
 use Rattle.rules.proofs.PastingLaws.{length-pasted}
 use Rattle.rules.proofs.PlaceLaws.{Shaped, shaped-next, pixel-reached, stays-inside}
 use Rattle.rules.proofs.ReadingLaws.{Moved, moved, moved-last, advances, stays-within}
-use Rattle.rules.proofs.RecordLaws.{formed, wanted-few}
+use Rattle.rules.proofs.RecordLaws.{formed, adds-up, wanted-few}
 use Rattle.rules.proofs.StepLaws.{nextState, bytesBy, needed, well-next, run-enough}
 use Rattle.resume.specs.declared.StepAnswer.{StepAnswer}
 use Rattle.resume.specs.Run.{ranBy, endAnswer}
 use Rattle.walk.specs.Walking.{Walk, walking, standing, walkOn, fits, walkingInto}
 
--- a state of a picture at a place
+-- a state of a picture at a place, with so many pixels left
+abbrev pub stateLeft : Header → ℕ → Place → ℕ → State
+stateLeft header wanted place left = record { header = header; wanted = wanted; place = place; left = left }
+
+-- with as many as the picture has from there on
 abbrev pub stateAt : Header → ℕ → Place → State
-stateAt header wanted place = record { header = header; wanted = wanted; place = place }
+stateAt header wanted place = stateLeft header wanted place (pixelCount header - place .pixel)
+
+-- which is what a well-formed state is
+at-place : (s : State) → T (wellFormed s) → s ≡ stateAt (s .header) (s .wanted) (s .place)
+at-place s well = ap (stateLeft (s .header) (s .wanted) (s .place)) (omega (arith, adds-up s well))
 
 module _ (header : Header) (wanted : ℕ) (m : List ℕ) where
   -- with no step left there is more to do; else the marker test was one
@@ -101,6 +109,7 @@ module _ (m : List ℕ) where
     unfolding running walking stood stepBy
     walks-none n none =
         rw (steps-by, moved-last decoder (s .header) (s .wanted) m (s .place) none, le-ltb (s .place .pixel) (pixelCount (s .header)) none)
+        (ap (λ (t : State). ended (closing (needed s) m (s .place .at)) t out) (at-place s (sets .well)))
 
     module _ (missing : s .place .pixel < pixelCount (s .header)) where
       walks-cut :
@@ -109,6 +118,7 @@ module _ (m : List ℕ) where
       unfolding running walking stepBy move moveBy
       walks-cut n found =
           rw (steps-by, lt-ltb (s .place .pixel) (pixelCount (s .header)) missing, found)
+          (ap (λ (t : State). ended (refused UnexpectedBufferEnd) t out) (at-place s (sets .well)))
 
       module _ (k : Chunk) (found : chunkAt (decoderReadsRgba (channelsNumber (s .header .channels))) (drop (s .place .at) m) ≡ chunk k) where
         sound : Sound (drop (s .place .at) m) k
@@ -152,7 +162,7 @@ module _ (m : List ℕ) where
       (n : ℕ) (s : State) (out : List ℕ) → Sets s out
       → running m n s out ≡ ranWalk (s .header) (s .wanted) m (walking (s .header) (s .wanted) m 0 n (s .place) out)
   unfolding running walking stood
-  run-walks zero s out sets = refl
+  run-walks zero s out sets = ap (λ (t : State). going t out) (at-place s (sets .well))
   run-walks (suc n) s out sets = go (run-walks n) (ltb (s .place .pixel) (pixelCount (s .header))) refl
     where
       Shorter : Type 0
@@ -222,45 +232,48 @@ module _ (header : Header) (wanted : ℕ) (m : List ℕ) (from : ℕ) (before : 
       go shorter true = by shorter (move decoder header wanted m place) (moved decoder header wanted m place)
       go shorter false = refl
 
--- steps beyond the pixels missing plus one change nothing
+-- steps beyond the pixels left plus one change nothing
 pub run-capped :
-    (m : List ℕ) (steps : ℕ) (s : State) (out : List ℕ)
-    → running m steps s out ≡ running m (min steps (pixelCount (s .header) - s .place .pixel + 1)) s out
-run-capped m steps s out = go (leb steps (missing + 1)) refl
+    (m : List ℕ) (steps : ℕ) (s : State) (out : List ℕ) → T (wellFormed s)
+    → running m steps s out ≡ running m (min steps (s .left + 1)) s out
+run-capped m steps s out well = go (leb steps (s .left + 1)) refl
   where
-    missing : ℕ
-    missing = pixelCount (s .header) - s .place .pixel
-
-    go : (b : Bool) → leb steps (missing + 1) ≡ b → running m steps s out ≡ running m (min steps (missing + 1)) s out
-    go true e = let few = leb-true steps (missing + 1) e in ap (λ (n : ℕ). running m n s out) (omega (arith, few))
+    go : (b : Bool) → leb steps (s .left + 1) ≡ b → running m steps s out ≡ running m (min steps (s .left + 1)) s out
+    go true e = let few = leb-true steps (s .left + 1) e in ap (λ (n : ℕ). running m n s out) (omega (arith, few))
     go false e =
-        let many = leb-false steps (missing + 1) e in
-        let count : steps ≡ suc (missing + (steps - (missing + 1))) = omega (arith, many) in
-        let least : min steps (missing + 1) ≡ suc missing = omega (arith, many) in
-        ap (λ (n : ℕ). running m n s out) count ∙ run-enough m missing (steps - (missing + 1)) s out (omega arith) ∙ ap (λ (n : ℕ). running m n s out) (sym least)
+        let many = leb-false steps (s .left + 1) e in
+        let count : steps ≡ suc (s .left + (steps - (s .left + 1))) = omega (arith, many) in
+        let least : min steps (s .left + 1) ≡ suc (s .left) = omega (arith, many) in
+        ap (λ (n : ℕ). running m n s out) count
+        ∙ run-enough m (s .left) (steps - (s .left + 1)) s out (omega (arith, adds-up s well))
+        ∙ ap (λ (n : ℕ). running m n s out) (sym least)
 
--- a walk's byte position stays within the message
-pub walk-inside :
-    (header : Header) (wanted : ℕ) (m : List ℕ) (from n : ℕ) (place : Place) (part : List ℕ) → place .at ≤ length m
-    → walking header wanted m from n place part .place .at ≤ length m
+-- a place within the message and the picture
+abbrev pub Lies : Header → List ℕ → Place → Type 0
+Lies header m place = (place .at ≤ length m) × (place .pixel ≤ pixelCount header)
+
+-- a walk stays within both
+walk-lies :
+    (header : Header) (wanted : ℕ) (m : List ℕ) (from n : ℕ) (place : Place) (part : List ℕ) → Lies header m place
+    → Lies header m (walking header wanted m from n place part .place)
 unfolding walking
-walk-inside header wanted m from zero place part inside = inside
-walk-inside header wanted m from (suc n) place part inside =
-    go (walk-inside header wanted m from n) (ltb (place .pixel) (pixelCount header)) (move decoder header wanted m place) (moved decoder header wanted m place)
+walk-lies header wanted m from zero place part lies = lies
+walk-lies header wanted m from (suc n) place part lies =
+    go (walk-lies header wanted m from n) (ltb (place .pixel) (pixelCount header)) (move decoder header wanted m place) (moved decoder header wanted m place)
   where
     go :
-        ((place′ : Place) (part′ : List ℕ) → place′ .at ≤ length m → walking header wanted m from n place′ part′ .place .at ≤ length m)
+        ((place′ : Place) (part′ : List ℕ) → Lies header m place′ → Lies header m (walking header wanted m from n place′ part′ .place))
         → (b : Bool) (v : Move) → Moved decoder header wanted m place v
-        → cond b (walkOn header wanted m from (walking header wanted m from n) (suc n) place part v) (standing (suc n) place part) .place .at ≤ length m
-    go shorter false v is = inside
-    go shorter true v (Moved.at-end answer) = inside
+        → Lies header m (cond b (walkOn header wanted m from (walking header wanted m from n) (suc n) place part v) (standing (suc n) place part) .place)
+    go shorter false v is = lies
+    go shorter true v (Moved.at-end answer) = lies
     go shorter true v (Moved.by-chunk k sound missing) =
         shorter (placeAfter decoder header wanted place k) (pasted ((place .pixel - from) * wanted) (bytesOf decoder header wanted place k) part)
-        (stays-inside header wanted m place k inside sound)
+        (stays-inside header wanted m place k (lies .0) sound, stays-within decoder header wanted place k (lies .1))
 
 -- a state that a run goes on from, with as many steps as it can use
 module _ (m : List ℕ) (s : State) (out : List ℕ) (steps : ℕ) (sets : Sets m s out) (inside : s .place .at ≤ length m)
-    (w : Channels) (wants : channelsNumber w ≡ s .wanted) (n : ℕ) (few : n ≡ min steps (pixelCount (s .header) - s .place .pixel + 1))
+    (w : Channels) (wants : channelsNumber w ≡ s .wanted) (n : ℕ) (few : n ≡ min steps (s .left + 1))
     (part : List ℕ) (rest : part ≡ drop (s .place .pixel * s .wanted) out)
     (walk : Walk) (walked : walk ≡ walkingInto (s .header) (channelsNumber w) m n (s .place) part) where
   abbrev before : List ℕ
@@ -283,7 +296,7 @@ module _ (m : List ℕ) (s : State) (out : List ℕ) (steps : ℕ) (sets : Sets 
   unfolding fits
   passes =
       rw wants
-      (simp (is-true (dimensionsFit (s .header .width) (s .header .height)) (formed s (sets .well) .header-passes), le-leb (s .place .at) (length m) inside, le-leb (s .place .pixel) (pixelCount (s .header)) within, le-leb n (pixelCount (s .header) + 1) (omega (arith, few)), le-leb ((pixelCount (s .header) - s .place .pixel) * s .wanted) (length part) room))
+      (simp (is-true (dimensionsFit (s .header .width) (s .header .height)) (formed s (sets .well) .header-passes), le-leb (s .place .at) (length m) inside, le-leb (s .place .pixel) (pixelCount (s .header)) within, le-leb n (pixelCount (s .header) + 1) (omega (arith, few, adds-up s (sets .well))), le-leb ((pixelCount (s .header) - s .place .pixel) * s .wanted) (length part) room))
 
   is-walk : walk ≡ walking (s .header) (s .wanted) m (s .place .pixel) n (s .place) part
   unfolding walkingInto
@@ -292,7 +305,7 @@ module _ (m : List ℕ) (s : State) (out : List ℕ) (steps : ℕ) (sets : Sets 
   -- the run is the walk into the part, below what stands before it
   pub run-through : running m steps s out ≡ ranWalk (s .header) (s .wanted) m (beneath before walk)
   run-through =
-      run-capped m steps s out
+      run-capped m steps s out (sets .well)
       ∙ ap (λ (k : ℕ). running m k s out) (sym few)
       ∙ run-walks m n s out sets
       ∙ ap (λ (o : List ℕ). ranWalk (s .header) (s .wanted) m (walking (s .header) (s .wanted) m 0 n (s .place) o))
@@ -301,8 +314,8 @@ module _ (m : List ℕ) (s : State) (out : List ℕ) (steps : ℕ) (sets : Sets 
       (walk-beneath (s .header) (s .wanted) m (s .place .pixel) before (length-take-le (s .place .pixel * s .wanted) out upto) n (s .place) part (omega arith)
       ∙ ap (beneath before) (sym is-walk))
 
-  pub through-inside : walk .place .at ≤ length m
-  through-inside = rw is-walk (walk-inside (s .header) (s .wanted) m (s .place .pixel) n (s .place) part inside)
+  pub through-lies : Lies (s .header) m (walk .place)
+  through-lies = rw is-walk (walk-lies (s .header) (s .wanted) m (s .place .pixel) n (s .place) part (inside, within))
 
 -- no steps test nothing
 pub run-none : (m : List ℕ) (s : State) (out : List ℕ) → going s out ≡ running m 0 s out
@@ -351,7 +364,8 @@ run-past m (suc n) s out some well room past =
 
 -- what a run answers, by what its walk into the part of the output from a place on answers
 module _ (header : Header) (wanted : ℕ) (m out : List ℕ) (from : ℕ) (w : Walk) (r : Ran)
-    (ran : r ≡ ranWalk header wanted m (beneath (take from out) w)) (fits : from ≤ length out) where
+    (ran : r ≡ ranWalk header wanted m (beneath (take from out) w)) (fits : from ≤ length out)
+    (left : ℕ) (is-left : left ≡ pixelCount header - w .place .pixel) where
   abbrev left-out : List ℕ
   left-out = putMid from (length out - from) out (w .out)
 
@@ -359,19 +373,19 @@ module _ (header : Header) (wanted : ℕ) (m out : List ℕ) (from : ℕ) (w : W
   back = put-rest out (w .out) from fits
 
   -- a chunk is cut short
-  pub answers-cut : w .cut ≡ true → ended (refused UnexpectedBufferEnd) (stateAt header wanted (w .place)) left-out ≡ r
-  answers-cut short = rw back (sym (rw short at ran))
+  pub answers-cut : w .cut ≡ true → ended (refused UnexpectedBufferEnd) (stateLeft header wanted (w .place) left) left-out ≡ r
+  answers-cut short = rw (back, is-left) (sym (rw short at ran))
 
   -- no step is left
-  pub answers-more : w .cut ≡ false → w .spare ≡ 0 → going (stateAt header wanted (w .place)) left-out ≡ r
+  pub answers-more : w .cut ≡ false → w .spare ≡ 0 → going (stateLeft header wanted (w .place) left) left-out ≡ r
   unfolding stood
-  answers-more whole none = rw back (sym (rw (whole, none) at ran))
+  answers-more whole none = rw (back, is-left) (sym (rw (whole, none) at ran))
 
   -- the marker test
   pub answers-end :
       w .cut ≡ false → (w .spare ≡ 0 → ⊥) → (size : ℕ) → size ≡ sizeWanted header wanted
-      → (a : StepAnswer) → a ≡ endAnswer (closing size m (w .place .at)) → ranBy a (stateAt header wanted (w .place)) left-out ≡ r
+      → (a : StepAnswer) → a ≡ endAnswer (closing size m (w .place .at)) → ranBy a (stateLeft header wanted (w .place) left) left-out ≡ r
   answers-end whole some size counted a is =
-      rw (back, is, counted)
+      rw (back, is-left, is, counted)
       (end-ran (closing (sizeWanted header wanted) m (w .place .at)) (stateAt header wanted (w .place)) (take from out ++ w .out)
       ∙ sym (rw whole at ran ∙ stood-end header wanted m (w .spare) (stateAt header wanted (w .place)) (take from out ++ w .out) some))

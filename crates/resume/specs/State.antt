@@ -20,6 +20,7 @@ stateOf d =
       header = d .header;
       wanted = d .wanted;
       place = record { at = d .at; pixel = d .pixel; current = d .current; slots = d .slots };
+      left = d .left;
     }
 
 -- a state to start from
@@ -57,6 +58,7 @@ decoderOf s =
       wanted = s .wanted;
       at = s .place .at;
       pixel = s .place .pixel;
+      left = s .left;
       current = s .place .current;
       slots = s .place .slots;
     }

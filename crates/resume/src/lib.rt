@@ -31,6 +31,8 @@ pub struct Decoder {
     pub at: usize,
     // Pixel position in the picture.
     pub pixel: usize,
+    // Pixels left: with the pixel position, those of the picture.
+    pub left: usize,
     pub current: Pixel,
     pub slots: Slots,
 }

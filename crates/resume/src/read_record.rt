@@ -1,8 +1,9 @@
 // Reading a record, left to right: each part answers its own refusals and hands the rest to the next.
 ghost use mathlib.Core.Path.{_≡_};
-ghost use Prim.Native.Nat.{_+_, _≤_};
+ghost use Prim.Native.Nat.{_+_, _-_, _≤_};
 ghost use lib.ListN.{length, drop};
 ghost use Rattle.header.specs.declared.HeaderRead.the-variants as headerRead;
+ghost use Rattle.header.specs.Header.{pixelCount};
 ghost use Rattle.pixel.specs.Bytes.{pixelFrom, pixelsFrom};
 ghost use Rattle.rules.specs.Record.{readWanted, readPositions, readSlots, acceptState};
 ghost use Rattle.resume.specs.Asked.{fromAt, fromPixel};
@@ -101,20 +102,32 @@ fn read_slots(
         wanted,
         at,
         pixel,
+        left: left_from(header, pixel),
         current,
         slots,
     };
     accept(old, decoder, bytes.len() - 260)
 }
 
+// The pixels left at a pixel position; past the picture none, and such a state is refused.
+fn left_from(header: Header, pixel: usize) -> usize
+    ensures { λ r. ⌜ r ≡ pixelCount header - pixel ⌝ }
+{
+    let pixels = header.n_pixels();
+    if pixels < pixel {
+        return 0;
+    }
+    pixels - pixel
+}
+
 // The faults of state, then bytes after the last slot.
-fn accept(old: Decoder, decoder: Decoder, left: usize) -> Started
-    ensures { λ r. ⌜ Answers (acceptState (stateOf decoder) left) old r ⌝ }
+fn accept(old: Decoder, decoder: Decoder, extra: usize) -> Started
+    ensures { λ r. ⌜ Answers (acceptState (stateOf decoder) extra) old r ⌝ }
 {
     if !well_formed::well_formed(decoder) {
         return start::refused(old, Error::BadState);
     }
-    if left != 0 {
+    if extra != 0 {
         return start::refused(old, Error::BadState);
     }
     Started {

@@ -33,8 +33,7 @@ pub fn run(decoder: Decoder, message: &[u8], out: &mut [u8], steps: u64) -> Step
             decoder,
         };
     }
-    let header = decoder.header;
-    let required = header.n_pixels() * (decoder.wanted as usize);
+    let required = (decoder.pixel + decoder.left) * (decoder.wanted as usize);
     if out.len() < required {
         return Stepped {
             answer: StepAnswer::Refused(Error::OutputBufferTooSmall {
@@ -70,7 +69,8 @@ fn go_on(decoder: Decoder, message: &[u8], out: &mut [u8], steps: usize, require
         current,
         slots,
     };
-    let most = header.n_pixels() - pixel + 1;
+    let left = decoder.left;
+    let pixels = pixel + left;
     let channels = channels_of(wanted);
     let from = pixel * (wanted as usize);
     let walked = walk::walk(
@@ -79,7 +79,7 @@ fn go_on(decoder: Decoder, message: &[u8], out: &mut [u8], steps: usize, require
         channels,
         place,
         &mut out[from..],
-        walk::least(steps, most),
+        walk::least(steps, left + 1),
     );
     let end = walked.place;
     let last = end.current;
@@ -89,6 +89,7 @@ fn go_on(decoder: Decoder, message: &[u8], out: &mut [u8], steps: usize, require
         wanted,
         at: end.at,
         pixel: end.pixel,
+        left: pixels - end.pixel,
         current: last,
         slots: held,
     };

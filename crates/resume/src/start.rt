@@ -11,7 +11,7 @@ use pixel::consts::QOI_HEADER_SIZE;
 use pixel::error::Error;
 use pixel::types::ChannelsRead;
 
-// The state before the first chunk.
+// The state before the first chunk: every pixel is left.
 pub fn fresh(header: Header, wanted: u64) -> Decoder
     ensures { λ r. ⌜ stateOf r ≡ startState header wanted ⌝ }
 {
@@ -23,6 +23,7 @@ pub fn fresh(header: Header, wanted: u64) -> Decoder
         wanted,
         at: QOI_HEADER_SIZE,
         pixel: 0,
+        left: header.n_pixels(),
         current,
         slots,
     }

@@ -16,7 +16,11 @@ pub fn well_formed(decoder: Decoder) -> bool
     if decoder.at < QOI_HEADER_SIZE {
         return false;
     }
-    if header.n_pixels() < decoder.pixel {
+    let pixels = header.n_pixels();
+    if pixels < decoder.pixel {
+        return false;
+    }
+    if decoder.left != pixels - decoder.pixel {
         return false;
     }
     if decoder.wanted == 3 {

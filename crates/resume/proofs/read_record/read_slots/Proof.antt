@@ -18,9 +18,9 @@ returns c = rw (lt-ltb _ 260 (c .before .if1 .taken)) (c .refused .ensures)
 returns-2 : tie.Need-returns-2
 unfolding readSlots
 returns-2 c =
-    let bytes = c .before .before .before .before .before .before .args .bytes .now in
-    let left : length bytes - 260 ≡ length (drop 260 bytes) = sym (length-drop 260 bytes) in
-    rw (le-ltb (length bytes) 260 (c .before .before .before .before .if1 .left), ← left, ← whole-tail bytes 4, ← c .before .slots-from .ensures, ← c .before .before .before .pixel-at .ensures) (c .accept .ensures)
+    let bytes = c .before .before .before .before .before .before .before .args .bytes .now in
+    let extra : length bytes - 260 ≡ length (drop 260 bytes) = sym (length-drop 260 bytes) in
+    rw (le-ltb (length bytes) 260 (c .before .before .before .before .before .if1 .left), ← extra, ← whole-tail bytes 4, ← c .before .before .slots-from .ensures, ← c .before .before .before .before .pixel-at .ensures, ← c .before .left-from .ensures) (c .accept .ensures)
 
 pub read-slots-spec : {M : Type 1} → statement M
 read-slots-spec =
@@ -32,6 +32,7 @@ read-slots-spec =
     (λ c. search needs)
     (λ c. search needs)
     (λ c. search needs)
+    (λ c κs. search needs)
     (λ c κs. search needs)
     (λ c. search needs)
     (λ c κs. search needs)

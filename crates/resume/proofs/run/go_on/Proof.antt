@@ -1,9 +1,9 @@
 -- `resume::run::go_on` meets its contract: the walk into the part of the output from the pixel on is the run.
 -- Assumes nothing.
-use mathlib.Core.Path.{_≡_, _∙_, ap}
+use mathlib.Core.Path.{_≡_, ap}
 use mathlib.Core.List.{List}
 use Prim.{tt}
-use Prim.Native.Nat.{ℕ, _+_, _-_, _*_, _≤_, min}
+use Prim.Native.Nat.{ℕ, _+_, _-_, _*_, _≤_}
 use native.Mathlib.Nat.{lt-of-le-of-lt, mul-le-mul, mul-le-mul-right}
 use native.Mathlib.Omega.{arith}
 use borrow.Author.Needs.{needs}
@@ -11,18 +11,22 @@ use lib.Dec.{lit<}
 use lib.ListN.{length, take, drop}
 use Rattle.header.specs.Header.{pixelCount}
 use Rattle.header.proofs.Laws.{pixels-small}
-use Rattle.rules.specs.Step.{running}
+use Rattle.rules.specs.Step.{State, running}
 use Rattle.rules.proofs.PastingLaws.{whole-tail}
-use Rattle.rules.proofs.RecordLaws.{formed, wanted-few}
-use Rattle.walk.specs.Walking.{walkOf}
+use Rattle.rules.proofs.RecordLaws.{formed, adds-up, wanted-few}
+use Rattle.walk.specs.Walking.{Walk, walkOf}
 use Rattle.resume.specs.State.{stateOf}
 use Rattle.resume.proofs.Owned.{typed}
-use Rattle.resume.proofs.RunLaws.{Sets, well-within, ranWalk, beneath, run-through, through-inside, answers-cut, answers-more, answers-end}
+use Rattle.resume.proofs.RunLaws.{Sets, Lies, ranWalk, beneath, run-through, through-lies, answers-cut, answers-more, answers-end}
 use Rattle.resume.proofs.run.go_on.Statement.{statement}
 use Rattle.resume.proofs.run.go_on.Tie as tie
 
--- the state may be gone on from
-sets : (c : tie.Start) → Sets (c .args .message .now) (stateOf (c .args .decoder)) (c .args .out .now)
+-- the state that was handed in
+abbrev given : tie.Start → State
+given c = stateOf (c .args .decoder)
+
+-- it may be gone on from
+sets : (c : tie.Start) → Sets (c .args .message .now) (given c) (c .args .out .now)
 sets c =
     let is = typed (c .args .decoder) _ (c .good .0) in
     record {
@@ -31,88 +35,118 @@ sets c =
       shaped = record { current-is = is .current-is; slots-are = is .slots-are; slot-is = is .slot-is };
     }
 
--- the pixel is not past the picture, which is not too large
-within : (c : tie.Start) → (c .args .decoder .pixel ≤ pixelCount (c .args .decoder .header)) × (pixelCount (c .args .decoder .header) ≤ 400000000)
-within c =
-    (well-within (stateOf (c .args .decoder)) (c .pre .well), pixels-small (c .args .decoder .header) (formed (stateOf (c .args .decoder)) (c .pre .well) .header-passes))
+-- its pixel position and its pixels left are the pixels
+adds : (c : tie.Start) → given c .place .pixel + given c .left ≡ pixelCount (given c .header)
+adds c = adds-up (given c) (c .pre .well)
 
--- what stands before it is within the output
-before-fits : (c : tie.Start) → c .args .decoder .pixel * c .args .decoder .wanted ≤ length (c .args .out .now)
-before-fits c = omega (arith, mul-le-mul-right (c .args .decoder .wanted) (within c .0), c .pre .counted, c .pre .room)
+-- which are not too many
+small : (c : tie.Start) → given c .place .pixel + given c .left ≤ 400000000
+small c = omega (arith, adds c, pixels-small (given c .header) (formed (given c) (c .pre .well) .header-passes))
 
--- the steps that are allowed
-few : (c : tie.After-least) → c .least .result ≡ min (c .before .before .before .before .before .before .before .before .before .args .steps) (pixelCount (c .before .before .before .before .before .before .before .before .before .args .decoder .header) - c .before .before .before .before .before .before .before .before .before .args .decoder .pixel + 1)
-few c = c .least .ensures ∙ ap (λ (n : ℕ). min (c .before .before .before .before .before .before .before .before .before .args .steps) (n - c .before .before .before .before .before .before .before .before .before .args .decoder .pixel + 1)) (c .before .before .before .n-pixels .ensures)
+-- the bytes before the pixel
+abbrev from : tie.Start → ℕ
+from c = given c .place .pixel * given c .wanted
+
+-- they are within the output
+before-fits : (c : tie.Start) → from c ≤ length (c .args .out .now)
+before-fits c =
+    let within : given c .place .pixel ≤ pixelCount (given c .header) = omega (arith, adds c) in
+    omega (arith, mul-le-mul-right (given c .wanted) within, c .pre .counted, c .pre .room)
 
 -- the part of the output that the walk is handed
 abbrev part : tie.Start → List ℕ
-part c = take (length (c .args .out .now) - c .args .decoder .pixel * c .args .decoder .wanted) (drop (c .args .decoder .pixel * c .args .decoder .wanted) (c .args .out .now))
+part c = take (length (c .args .out .now) - from c) (drop (from c) (c .args .out .now))
 
--- the run is the walk, below what stands before the pixel
+-- where the walk began, and what it did
+abbrev start : tie.After-walk → tie.Start
+start c = c .before .before .before .before .before .before .before .before .before
+
+abbrev walk : tie.After-walk → Walk
+walk c = walkOf (c .walk .result) (c .walk .last .1 .1 .1 .1 .0)
+
+-- the run is the walk
 ran :
     (c : tie.After-walk)
-    → running (c .before .before .before .before .before .before .before .before .before .before .args .message .now) (c .before .before .before .before .before .before .before .before .before .before .args .steps) (stateOf (c .before .before .before .before .before .before .before .before .before .before .args .decoder)) (c .before .before .before .before .before .before .before .before .before .before .args .out .now)
-    ≡ ranWalk (c .before .before .before .before .before .before .before .before .before .before .args .decoder .header) (c .before .before .before .before .before .before .before .before .before .before .args .decoder .wanted) (c .before .before .before .before .before .before .before .before .before .before .args .message .now)
-    (beneath (take (c .before .before .before .before .before .before .before .before .before .before .args .decoder .pixel * c .before .before .before .before .before .before .before .before .before .before .args .decoder .wanted) (c .before .before .before .before .before .before .before .before .before .before .args .out .now)) (walkOf (c .walk .result) (c .walk .last .1 .1 .1 .1 .0)))
+    → running (start c .args .message .now) (start c .args .steps) (given (start c)) (start c .args .out .now)
+    ≡ ranWalk (given (start c) .header) (given (start c) .wanted) (start c .args .message .now)
+    (beneath (take (from (start c)) (start c .args .out .now)) (walk c))
 ran c =
-    run-through (c .before .before .before .before .before .before .before .before .before .before .args .message .now) (stateOf (c .before .before .before .before .before .before .before .before .before .before .args .decoder)) (c .before .before .before .before .before .before .before .before .before .before .args .out .now) (c .before .before .before .before .before .before .before .before .before .before .args .steps) (sets (c .before .before .before .before .before .before .before .before .before .before)) (c .before .before .before .before .before .before .before .before .before .before .pre .inside) (c .before .before .before .channels-of .result) (c .before .before .before .channels-of .ensures)
-    (c .before .least .result) (few (c .before)) (part (c .before .before .before .before .before .before .before .before .before .before)) (whole-tail (c .before .before .before .before .before .before .before .before .before .before .args .out .now) (c .before .before .before .before .before .before .before .before .before .before .args .decoder .pixel * c .before .before .before .before .before .before .before .before .before .before .args .decoder .wanted))
-    (walkOf (c .walk .result) (c .walk .last .1 .1 .1 .1 .0)) (c .walk .ensures)
+    run-through (start c .args .message .now) (given (start c)) (start c .args .out .now) (start c .args .steps) (sets (start c)) (start c .pre .inside) (c .before .before .before .channels-of .result) (c .before .before .before .channels-of .ensures)
+    (c .before .least .result) (c .before .least .ensures) (part (start c)) (whole-tail (start c .args .out .now) (from (start c))) (walk c) (c .walk .ensures)
 
--- the byte position is still within the message
-still-inside : (c : tie.After-walk) → c .walk .result .place .at ≤ length (c .before .before .before .before .before .before .before .before .before .before .args .message .now)
-still-inside c =
-    through-inside (c .before .before .before .before .before .before .before .before .before .before .args .message .now) (stateOf (c .before .before .before .before .before .before .before .before .before .before .args .decoder)) (c .before .before .before .before .before .before .before .before .before .before .args .out .now) (c .before .before .before .before .before .before .before .before .before .before .args .steps) (sets (c .before .before .before .before .before .before .before .before .before .before)) (c .before .before .before .before .before .before .before .before .before .before .pre .inside) (c .before .before .before .channels-of .result) (c .before .before .before .channels-of .ensures)
-    (c .before .least .result) (few (c .before)) (part (c .before .before .before .before .before .before .before .before .before .before)) (whole-tail (c .before .before .before .before .before .before .before .before .before .before .args .out .now) (c .before .before .before .before .before .before .before .before .before .before .args .decoder .pixel * c .before .before .before .before .before .before .before .before .before .before .args .decoder .wanted))
-    (walkOf (c .walk .result) (c .walk .last .1 .1 .1 .1 .0)) (c .walk .ensures)
+-- it stands within the message and the picture
+lies : (c : tie.After-walk) → Lies (given (start c) .header) (start c .args .message .now) (walk c .place)
+lies c =
+    through-lies (start c .args .message .now) (given (start c)) (start c .args .out .now) (start c .args .steps) (sets (start c)) (start c .pre .inside) (c .before .before .before .channels-of .result) (c .before .before .before .channels-of .ensures)
+    (c .before .least .result) (c .before .least .ensures) (part (start c)) (whole-tail (start c .args .out .now) (from (start c))) (walk c) (c .walk .ensures)
 
-sub-most : tie.Need-sub-most
-sub-most c = omega (arith, within (c .before .before .before .before .before .before) .0, c .n-pixels .ensures)
+-- the pixels left there
+abbrev left : tie.After-walk → ℕ
+left c = given (start c) .place .pixel + given (start c) .left - walk c .place .pixel
 
-add-most : tie.Need-add-most
-add-most c = record { fits = omega (arith, within (c .before .before .before .before .before .before) .1, c .n-pixels .ensures) }
+left-there : (c : tie.After-walk) → left c ≡ pixelCount (given (start c) .header) - walk c .place .pixel
+left-there c = ap (λ (n : ℕ). n - walk c .place .pixel) (adds (start c))
+
+add-pixels : tie.Need-add-pixels
+add-pixels c = record { fits = omega (arith, small (c .before .before .before .before .before)) }
 
 channels-of-requires : tie.Need-channels-of-requires
-channels-of-requires c κs = formed (stateOf (c .before .before .before .before .before .before .args .decoder)) (c .before .before .before .before .before .before .pre .well) .wanted-passes
+channels-of-requires c κs = formed (given (c .before .before .before .before .before)) (c .before .before .before .before .before .pre .well) .wanted-passes
 
 mul-from : tie.Need-mul-from
 mul-from c =
-    let few : c .before .before .before .before .before .before .before .args .decoder .pixel * c .before .before .before .before .before .before .before .args .decoder .wanted ≤ 1600000000 =
-    mul-le-mul {n₂ = 400000000} (omega (arith, within (c .before .before .before .before .before .before .before) .0, within (c .before .before .before .before .before .before .before) .1)) (wanted-few (stateOf (c .before .before .before .before .before .before .before .args .decoder)) (c .before .before .before .before .before .before .before .pre .well)) in
+    let s = given (c .before .before .before .before .before .before) in
+    let few : s .place .pixel * s .wanted ≤ 1600000000 =
+    mul-le-mul {n₂ = 400000000} (omega (arith, small (c .before .before .before .before .before .before))) (wanted-few s (c .before .before .before .before .before .before .pre .well)) in
     record { fits = lt-of-le-of-lt few (lit< tt) }
 
 sub-walk : tie.Need-sub-walk
-sub-walk c = before-fits (c .before .before .before .before .before .before .before)
+sub-walk c = before-fits (c .before .before .before .before .before .before)
 
 part-walk-start : tie.Need-part-walk-start
-part-walk-start c = before-fits (c .before .before .before .before .before .before .before)
+part-walk-start c = before-fits (c .before .before .before .before .before .before)
+
+add-least : tie.Need-add-least
+add-least c = record { fits = omega (arith, small (c .before .before .before .before .before .before .before)) }
+
+sub-t21 : tie.Need-sub-t21
+sub-t21 c = omega (arith, lies (c .before .before .before .before .before .before) .1, adds (c .before .before .before .before .before .before .before .before .before .before .before .before .before .before .before))
 
 returns : tie.Need-returns
-returns c = answers-cut (c .before .before .before .before .before .before .before .before .before .before .before .before .before .before .before .before .args .decoder .header) (c .before .before .before .before .before .before .before .before .before .before .before .before .before .before .before .before .args .decoder .wanted) (c .before .before .before .before .before .before .before .before .before .before .before .before .before .before .before .before .args .message .now) (c .before .before .before .before .before .before .before .before .before .before .before .before .before .before .before .before .args .out .now) (c .before .before .before .before .before .before .before .before .before .before .before .before .before .before .before .before .args .decoder .pixel * c .before .before .before .before .before .before .before .before .before .before .before .before .before .before .before .before .args .decoder .wanted) (walkOf (c .before .before .before .before .before .before .walk .result) (c .before .before .before .before .before .before .walk .last .1 .1 .1 .1 .0)) _ (ran (c .before .before .before .before .before .before)) (before-fits (c .before .before .before .before .before .before .before .before .before .before .before .before .before .before .before .before)) (c .if1 .taken)
+returns c =
+    let w = c .before .before .before .before .before .before .before in
+    let s = start w in
+    answers-cut (given s .header) (given s .wanted) (s .args .message .now) (s .args .out .now) (from s) (walk w) _ (ran w) (before-fits s) (left w) (left-there w) (c .if1 .taken)
 
 returns-2 : tie.Need-returns-2
-returns-2 c = answers-more (c .before .before .before .before .before .before .before .before .before .before .before .before .before .before .before .before .before .before .args .decoder .header) (c .before .before .before .before .before .before .before .before .before .before .before .before .before .before .before .before .before .before .args .decoder .wanted) (c .before .before .before .before .before .before .before .before .before .before .before .before .before .before .before .before .before .before .args .message .now) (c .before .before .before .before .before .before .before .before .before .before .before .before .before .before .before .before .before .before .args .out .now) (c .before .before .before .before .before .before .before .before .before .before .before .before .before .before .before .before .before .before .args .decoder .pixel * c .before .before .before .before .before .before .before .before .before .before .before .before .before .before .before .before .before .before .args .decoder .wanted) (walkOf (c .before .before .before .before .before .before .before .before .walk .result) (c .before .before .before .before .before .before .before .before .walk .last .1 .1 .1 .1 .0)) _ (ran (c .before .before .before .before .before .before .before .before)) (before-fits (c .before .before .before .before .before .before .before .before .before .before .before .before .before .before .before .before .before .before)) (c .before .before .if1 .left) (c .if2 .taken)
+returns-2 c =
+    let w = c .before .before .before .before .before .before .before .before .before in
+    let s = start w in
+    answers-more (given s .header) (given s .wanted) (s .args .message .now) (s .args .out .now) (from s) (walk w) _ (ran w) (before-fits s) (left w) (left-there w) (c .before .before .if1 .left) (c .if2 .taken)
 
 close-requires : tie.Need-close-requires
-close-requires c κs = still-inside (c .before .before .before .before .before .before .before .before)
+close-requires c κs = lies (c .before .before .before .before .before .before .before .before .before) .0
 
 returns-3 : tie.Need-returns-3
-returns-3 c = answers-end (c .before .before .before .before .before .before .before .before .before .before .before .before .before .before .before .before .before .before .before .args .decoder .header) (c .before .before .before .before .before .before .before .before .before .before .before .before .before .before .before .before .before .before .before .args .decoder .wanted) (c .before .before .before .before .before .before .before .before .before .before .before .before .before .before .before .before .before .before .before .args .message .now) (c .before .before .before .before .before .before .before .before .before .before .before .before .before .before .before .before .before .before .before .args .out .now) (c .before .before .before .before .before .before .before .before .before .before .before .before .before .before .before .before .before .before .before .args .decoder .pixel * c .before .before .before .before .before .before .before .before .before .before .before .before .before .before .before .before .before .before .before .args .decoder .wanted) (walkOf (c .before .before .before .before .before .before .before .before .before .walk .result) (c .before .before .before .before .before .before .before .before .before .walk .last .1 .1 .1 .1 .0)) _ (ran (c .before .before .before .before .before .before .before .before .before)) (before-fits (c .before .before .before .before .before .before .before .before .before .before .before .before .before .before .before .before .before .before .before)) (c .before .before .before .if1 .left) (c .before .if2 .left) _ (c .before .before .before .before .before .before .before .before .before .before .before .before .before .before .before .before .before .before .before .pre .counted) _ (c .close .ensures)
+returns-3 c =
+    let w = c .before .before .before .before .before .before .before .before .before .before in
+    let s = start w in
+    answers-end (given s .header) (given s .wanted) (s .args .message .now) (s .args .out .now) (from s) (walk w) _ (ran w) (before-fits s) (left w) (left-there w) (c .before .before .before .if1 .left) (c .before .if2 .left) _ (s .pre .counted) _ (c .close .ensures)
 
 pub go-on-spec : {M : Type 1} → statement M
 go-on-spec =
     tie.close
     (tie.spec
-    (λ c κs. search needs)
-    sub-most
-    add-most
+    add-pixels
     channels-of-requires
     mul-from
     sub-walk
     part-walk-start
     (λ c. search needs)
+    add-least
     (λ c κs. search needs)
     (λ c κs. search needs)
+    sub-t21
     (λ c. search needs)
     returns
     (λ c. search needs)

@@ -2,6 +2,7 @@
 -- Assumes nothing.
 use mathlib.Core.Path.{sym}
 use mathlib.Core.Bool.{and-true, and-false}
+use Prim.Native.Nat.{_+_}
 use native.Mathlib.Omega.{arith}
 use borrow.Author.Needs.{needs}
 use borrow.Author.Tests.{le-leb, lt-leb, eq-eqb, ne-eqb, not-true}
@@ -33,16 +34,29 @@ returns-3 c =
 returns-4 : tie.Need-returns-4
 unfolding wellFormed
 returns-4 c =
-    let d = c .before .before .before .before .before .before .before .before .before .before .before .before .args .decoder in
-    let n = c .before .before .before .before .before .before .n-pixels .ensures in
-    rw (fitted (d .header) (c .before .before .before .before .before .before .before .before .before .before .dimensions-fit .ensures) (c .before .before .before .before .before .before .before .before .before .if1 .left), le-leb 14 (d .at) (omega arith), le-leb (d .pixel) (pixelCount (d .header)) (omega arith), eq-eqb (d .wanted) 3 (omega arith), c .a .ensures)
+    let d = c .before .before .before .before .before .before .before .before .before .before .before .args .decoder in
+    let n = c .before .before .before .before .before .n-pixels .ensures in
+    let within = c .before .before .before .if3 .left in
+    rw (fitted (d .header) (c .before .before .before .before .before .before .before .before .before .dimensions-fit .ensures) (c .before .before .before .before .before .before .before .before .if1 .left), le-leb 14 (d .at) (omega arith), le-leb (d .pixel) (pixelCount (d .header)) (omega arith), ne-eqb (d .pixel + d .left) (pixelCount (d .header)) (λ e. c .if4 .taken (omega (arith, e))))
+    (sym (and-false (wantedPasses (stateOf d))))
 
 returns-5 : tie.Need-returns-5
 unfolding wellFormed
 returns-5 c =
-    let d = c .before .before .before .before .before .before .before .before .before .before .before .args .decoder in
-    let n = c .before .before .before .before .before .n-pixels .ensures in
-    rw (fitted (d .header) (c .before .before .before .before .before .before .before .before .before .dimensions-fit .ensures) (c .before .before .before .before .before .before .before .before .if1 .left), le-leb 14 (d .at) (omega arith), le-leb (d .pixel) (pixelCount (d .header)) (omega arith), ne-eqb (d .wanted) 3 (c .before .if4 .left))
+    let d = c .before .before .before .before .before .before .before .before .before .before .before .before .before .before .before .args .decoder in
+    let n = c .before .before .before .before .before .before .before .before .before .n-pixels .ensures in
+    let within = c .before .before .before .before .before .before .before .if3 .left in
+    let rest = c .before .before .before .before .if4 .left in
+    rw (fitted (d .header) (c .before .before .before .before .before .before .before .before .before .before .before .before .before .dimensions-fit .ensures) (c .before .before .before .before .before .before .before .before .before .before .before .before .if1 .left), le-leb 14 (d .at) (omega (arith, c .before .before .before .before .before .before .before .before .before .before .if2 .left)), le-leb (d .pixel) (pixelCount (d .header)) (omega arith), eq-eqb (d .pixel + d .left) (pixelCount (d .header)) (omega arith), eq-eqb (d .wanted) 3 (omega arith), c .a .ensures)
+
+returns-6 : tie.Need-returns-6
+unfolding wellFormed
+returns-6 c =
+    let d = c .before .before .before .before .before .before .before .before .before .before .before .before .before .before .args .decoder in
+    let n = c .before .before .before .before .before .before .before .before .n-pixels .ensures in
+    let within = c .before .before .before .before .before .before .if3 .left in
+    let rest = c .before .before .before .if4 .left in
+    rw (fitted (d .header) (c .before .before .before .before .before .before .before .before .before .before .before .before .dimensions-fit .ensures) (c .before .before .before .before .before .before .before .before .before .before .before .if1 .left), le-leb 14 (d .at) (omega (arith, c .before .before .before .before .before .before .before .before .before .if2 .left)), le-leb (d .pixel) (pixelCount (d .header)) (omega arith), eq-eqb (d .pixel + d .left) (pixelCount (d .header)) (omega arith), ne-eqb (d .wanted) 3 (c .before .if5 .left))
     (sym (and-true _))
 
 pub well-formed-spec : {M : Type 1} → statement M
@@ -54,6 +68,7 @@ well-formed-spec =
     returns-2
     (λ c κs. search needs)
     returns-3
-    (λ c κs. search needs)
     returns-4
-    returns-5)
+    (λ c κs. search needs)
+    returns-5
+    returns-6)
