@@ -17,6 +17,8 @@ pub struct Record {
     /// Zeros from `length` on.
     bytes: [u8; RECORD_MAX],
     length: usize,
+    /// The pixels left. The bytes do not hold them: with the pixels done they are those of the header.
+    left: usize,
 }
 
 impl Record {
@@ -47,10 +49,32 @@ impl Record {
     /// ```
     pub fn from_bytes(bytes: &[u8]) -> Result<Self> {
         // a run of no steps looks at the record alone
-        match taken_up(&[], bytes, &mut [], 0)? {
+        match taken_up(&[], bytes, &mut [], 0, Self::read)? {
             Ran::More(record) => Ok(record),
             Ran::Done { .. } => unreachable!("no steps end no decode"),
         }
+    }
+
+    /// The record in these bytes: every pixel that is not done is left.
+    fn read(bytes: [u8; RECORD_MAX], length: u64) -> Self {
+        let mut record = Self {
+            bytes,
+            length: length as usize,
+            left: 0,
+        };
+        record.left = record.header().n_pixels() - record.pixels_done();
+        record
+    }
+
+    /// The record in these bytes, to which a run from this one led.
+    fn next(&self, bytes: [u8; RECORD_MAX], length: u64) -> Self {
+        let mut next = Self {
+            bytes,
+            length: length as usize,
+            left: 0,
+        };
+        next.left = self.left - (next.pixels_done() - self.pixels_done());
+        next
     }
 
     /// The header of the message that it was started on.
@@ -70,6 +94,11 @@ impl Record {
         pixel as usize
     }
 
+    /// How many pixels are left. With one step more than these a run ends.
+    pub fn pixels_left(&self) -> usize {
+        self.left
+    }
+
     /// How many bytes of the output are done: a run from here writes only after them.
     pub fn bytes_done(&self) -> usize {
         self.pixels_done() * usize::from(self.channels().as_u8())
@@ -77,7 +106,7 @@ impl Record {
 
     /// How many bytes the whole output has.
     pub fn required_buf_len(&self) -> usize {
-        self.header().with_channels(self.channels()).n_bytes()
+        (self.pixels_done() + self.left) * usize::from(self.channels().as_u8())
     }
 
     /// Wanted channels, byte position in the message, pixel: seven bits a byte, the lowest first, the top bit set on all but the last byte.
@@ -131,16 +160,13 @@ pub fn start(message: impl AsRef<[u8]>, channels: Channels) -> Result<Record> {
     let mut bytes = [0; RECORD_MAX];
     let wanted = channels.as_u8().into();
     let [length, ..] = accepted(ffi::start(message.as_ref(), wanted, &mut bytes))?;
-    Ok(Record {
-        bytes,
-        length: length as usize,
-    })
+    Ok(Record::read(bytes, length))
 }
 
 /// Goes on from a record for at most `steps` steps, a chunk each.
 ///
 /// However the decode was cut into runs, and whichever of its records the last worker took up, its end is that of one undisturbed decode: the same
-/// answer, and the same bytes in `out`. That is proved. With as many steps as pixels are missing and one more, which tests the marker, it ends;
+/// answer, and the same bytes in `out`. That is proved. With as many steps as [`Record::pixels_left`] and one more, which tests the marker, it ends;
 /// `u64::MAX` is allowed.
 ///
 /// # What the caller owes
@@ -191,18 +217,22 @@ pub fn start(message: impl AsRef<[u8]>, channels: Channels) -> Result<Record> {
 /// # Ok::<(), pivotshade::Error>(())
 /// ```
 pub fn run(message: impl AsRef<[u8]>, record: &Record, out: &mut [u8], steps: u64) -> Result<Ran> {
-    taken_up(message.as_ref(), record.as_bytes(), out, steps)
+    let next = |bytes, length| record.next(bytes, length);
+    taken_up(message.as_ref(), record.as_bytes(), out, steps, next)
 }
 
-/// A run from any bytes, which may be no record.
-fn taken_up(message: &[u8], record: &[u8], out: &mut [u8], steps: u64) -> Result<Ran> {
+/// A run from any bytes, which may be no record; `next` makes one of the bytes that it leaves.
+fn taken_up(
+    message: &[u8],
+    record: &[u8],
+    out: &mut [u8],
+    steps: u64,
+    next: impl FnOnce([u8; RECORD_MAX], u64) -> Record,
+) -> Result<Ran> {
     let mut bytes = [0; RECORD_MAX];
     let answer = ffi::run(message, record, out, steps, &mut bytes);
     if let (MORE, [length, ..]) = answer {
-        return Ok(Ran::More(Record {
-            bytes,
-            length: length as usize,
-        }));
+        return Ok(Ran::More(next(bytes, length)));
     }
     let [size, used, ..] = accepted(answer)?;
     Ok(Ran::Done {

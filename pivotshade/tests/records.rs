@@ -46,6 +46,8 @@ fn numbers_of_more_than_a_byte() {
         record = Record::from_bytes(next.as_bytes()).unwrap();
         assert_eq!(record, next);
         assert_eq!(record.bytes_done(), 4 * record.pixels_done());
+        assert_eq!(record.pixels_done() + record.pixels_left(), 100_000);
+        assert_eq!(record.required_buf_len(), out.len());
         // up to the record's pixel the picture stands there
         let at = record.pixels_done() - 1;
         assert_eq!(out[4 * at..4 * at + 3], pixels[3 * at..3 * at + 3]);
@@ -61,7 +63,7 @@ fn numbers_of_more_than_a_byte() {
         Ran::More(next) => next,
         done => panic!("{done:?} before the marker"),
     };
-    assert_eq!(record.pixels_done(), 100_000);
+    assert_eq!((record.pixels_done(), record.pixels_left()), (100_000, 0));
     assert_eq!(record.bytes_done(), 400_000);
     assert_eq!(record.as_bytes()[18..21], [0xa0, 0x8d, 0x06]);
     assert_eq!(
@@ -162,7 +164,8 @@ fn damaged_in_every_byte() {
             match Record::from_bytes(&bytes) {
                 Ok(other) => {
                     assert_eq!(other.as_bytes(), bytes);
-                    assert!(other.pixels_done() <= other.header().n_pixels());
+                    let pixels = other.pixels_done() + other.pixels_left();
+                    assert_eq!(pixels, other.header().n_pixels());
                     let ran = run(&message, &other, &mut out, 0);
                     assert_eq!(ran, Ok(Ran::More(other.clone())));
                     if let Err(error) = run(&message, &other, &mut out, u64::MAX) {

@@ -5,7 +5,6 @@ use mathlib.Core.List.{List}
 use Prim.Native.Nat.{ℕ, _+_, _^_, _≤_, _<_}
 use native.Mathlib.Omega.{arith}
 use borrow.Author.Tests.{le-ltb}
-use lib.Dec.{leb→le}
 use lib.ListN.{length, take}
 use Rattle.pixel.specs.declared.error.Error.{Error}
 use Rattle.pixel.specs.declared.error.Error.the-variants.{UnexpectedBufferEnd, InvalidChannels, InvalidColorSpace, InvalidMagic, InvalidImageDimensions, InvalidImageLength, OutputBufferTooSmall, InvalidPadding, BadState, RunPastImage, BytesAfterMarker, InvalidHour, InvalidCellCount, TotalTooLarge}
@@ -25,11 +24,11 @@ use Rattle.rules.specs.Decode.{decoder, decoding}
 use Rattle.rules.specs.Figures.{answerFigures}
 use Rattle.rules.specs.Step.{State, wellFormed, Started, started, notStarted, startWanted, startHeader, starting, Ran, going, ended, outputOf, running}
 use Rattle.rules.specs.Record.{Recorded, recorded, notRecorded, recording, recordedOver, recordBytes, readRecord}
-use Rattle.rules.proofs.RecordLaws.{record-length, formed}
+use Rattle.rules.proofs.RecordLaws.{record-length}
 use Rattle.rules.proofs.RecordAgainLaws.{record-written-back, record-well-formed, record-short}
 use Rattle.demands.specs.TakeOver.{Life, begun, taken-up, stepsLeft}
 use Rattle.demands.specs.Inside.{StoppedInside}
-use Rattle.demands.proofs.TakeOver.{reached-readable, reached-well-formed, enough-steps, run-lives, run-ends-as-uncut}
+use Rattle.demands.proofs.TakeOver.{reached-readable, reached-well-formed, reached-adds-up, enough-steps, run-lives, run-ends-as-uncut}
 use Rattle.demands.proofs.Steps.{run-keeps-before, run-further}
 use Rattle.demands.proofs.Inside.{inside-keeps-before}
 use Rattle.demands.proofs.Written.{written-record}
@@ -138,10 +137,9 @@ module _ {m : List ℕ} {w : ℕ} {r o b : List ℕ} (l : Lives m w r o b) (step
           let same : k ≡ n = cc in
           let life = run-lives steps (l .life) s′ o′ e in
           let further = run-further m steps (l .state) o s′ o′ e in
-          let within = formed s′ (reached-well-formed life .0) .pixel-passes in
           let reads : readRecord (take n (recordedOver s′ next)) ≡ started s′ =
           rw (written-record s′ next n (is ∙ ap recorded same)) (reached-readable life) in
-          (s′, reads, omega (arith, further .0, ap pixelCount (further .1), leb→le (s′ .place .pixel) (pixelCount (s′ .header)) within))
+          (s′, reads, omega (arith, further .0, ap pixelCount (further .1), reached-adds-up (l .life), reached-adds-up life))
       on s′ o′ e (notRecorded x) is told = let z : numberOf x ≡ 256 = cc in absurd (omega (arith, number-small x .1))
 
       go : (v : Ran) → running m steps (l .state) o ≡ v → ranFigures v next ≡ says 256 n → Goal v
@@ -193,7 +191,7 @@ takes-over-so l =
       ends-within = ends-soon l;
     }
 
--- whatever a host did, its record is read, and ends as pivotshade_decode within the pixels missing plus one steps
+-- whatever a host did, its record is read, and ends as pivotshade_decode within the pixels left plus one steps
 pub host-takes-over : {m : List ℕ} {w : ℕ} {r o b : List ℕ} → Host m w r o b → TakesOver m w r o b
 host-takes-over host = takes-over-so (lives host)
 

@@ -66,7 +66,7 @@ pub record TakesOver (m : List ℕ) (w : ℕ) (r o b : List ℕ) : Type 0 where
   pub nearer :
       (steps : ℕ) (next : List ℕ) (n : ℕ) → hostFigures m steps o next (readRecord r) ≡ says 256 n
       → (s′ : State) × (readRecord (take n (hostNext m steps o next (readRecord r))) ≡ started s′) × (stepsLeft s′ + steps ≤ stepsLeft state)
-  -- with the pixels missing plus one steps, or more, it does not return 256
+  -- with the pixels left plus one steps, or more, it does not return 256
   pub ends-within :
       (steps : ℕ) (next : List ℕ) → stepsLeft state ≤ steps
       → returned (hostFigures m steps o next (readRecord r)) ≡ 256 → ⊥

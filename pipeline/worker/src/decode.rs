@@ -139,8 +139,7 @@ impl<'a, D: Disk> Worker<'a, D> {
 
     /// How many steps to run: never past the last pixel, but the marker's alone, so that a record is saved in between.
     fn steps(&self, at_once: u64) -> u64 {
-        let left = self.record.header().n_pixels() - self.record.pixels_done();
-        let sure = (left + PIXELS_A_STEP - 1) / PIXELS_A_STEP;
+        let sure = (self.record.pixels_left() + PIXELS_A_STEP - 1) / PIXELS_A_STEP;
         at_once
             .min(self.job.every - self.unsaved)
             .min(sure as u64)

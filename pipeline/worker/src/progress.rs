@@ -29,14 +29,15 @@ impl Bar {
             return;
         }
         self.drawn = Some(Instant::now());
-        let line = line(record.pixels_done(), record.header().n_pixels());
+        let line = line(record.pixels_done(), record.pixels_left());
         // a terminal that is gone is no reason to stop decoding
         let _ = write!(stderr(), "\r{line}");
     }
 }
 
 /// How far a decode is.
-fn line(done: usize, all: usize) -> String {
+fn line(done: usize, left: usize) -> String {
+    let all = done + left;
     let marks = "#".repeat(done * MARKS / all);
     let percent = done * 100 / all;
     format!("[{marks:-<MARKS$}] {percent:3}% of {all} pixels")
@@ -75,7 +76,7 @@ mod tests {
         let half = "[####################--------------------]  50% of 400000000 pixels";
         let full = "[########################################] 100% of 400000000 pixels";
         assert_eq!(line(0, 400_000_000), empty);
-        assert_eq!(line(200_000_000, 400_000_000), half);
-        assert_eq!(line(400_000_000, 400_000_000), full);
+        assert_eq!(line(200_000_000, 200_000_000), half);
+        assert_eq!(line(400_000_000, 0), full);
     }
 }
