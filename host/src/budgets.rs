@@ -1,4 +1,4 @@
-// The bound on steps: from each checkpoint the pixels missing and one more end the decode, and n steps, then m, are n + m.
+// The bound on steps: from each checkpoint the pixels left and one more end the decode, and n steps, then m, are n + m.
 use crate::check::Check;
 use crate::messages::any_message;
 use crate::output::{self, Next, Output, Ran, Stand};

@@ -1,6 +1,6 @@
-// The host of the port's exported functions: `host compare` holds them to crate qoi 0.4.1 on the same inputs, `host peers` to other programs by
-// the files that they write and read, `host bench` times them against crate qoi by programs that are `host race`, and `host repeat` does one call many
-// times, for its instructions to be counted.
+// The host of the port's exported functions: `host compare` holds them to crate qoi 0.4.1 on the same inputs, `host states` the program `states` to the
+// same on states that are made up, `host peers` the functions to other programs by the files that they write and read, `host bench` times them against
+// crate qoi by programs that are `host race`, and `host repeat` does one call many times, for its instructions to be counted.
 mod answer;
 mod bench;
 mod budgets;
@@ -31,6 +31,7 @@ mod repeat;
 mod samples;
 mod sha256;
 mod sizes;
+mod states;
 mod strict;
 mod stricts;
 mod table;
@@ -43,8 +44,8 @@ use std::process::ExitCode;
 
 fn usage() -> ExitCode {
     eprintln!(
-        "usage: host compare CASES SEED IMAGES | host peers FOLDER IMAGES | host bench IMAGES all|encode|strict|count HOST... | \
-         host race IMAGES | host repeat ours|rust decode|encode CHANNELS TIMES FILE"
+        "usage: host compare CASES SEED IMAGES | host states COUNT SEED PROGRAM... | host peers FOLDER IMAGES | \
+         host bench IMAGES all|encode|strict|count HOST... | host race IMAGES | host repeat ours|rust decode|encode CHANNELS TIMES FILE"
     );
     ExitCode::from(2)
 }
@@ -55,6 +56,10 @@ fn main() -> ExitCode {
     match words[..] {
         ["compare", cases, seed, folder] => match (cases.parse(), seed.parse()) {
             (Ok(cases), Ok(seed)) => compare::run(cases, seed, &PathBuf::from(folder)),
+            _ => usage(),
+        },
+        ["states", count, seed, ref program @ ..] => match (count.parse(), seed.parse()) {
+            (Ok(count), Ok(seed)) => states::run(count, seed, program),
             _ => usage(),
         },
         ["peers", folder, images] => peers::run(&PathBuf::from(folder), &PathBuf::from(images)),

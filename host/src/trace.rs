@@ -108,7 +108,7 @@ impl Trace {
         self.pixel(steps) * self.wanted as usize
     }
 
-    /// The pixels of the picture that are missing after `steps` steps.
+    /// The pixels of the picture that are left after `steps` steps.
     pub fn missing(&self, steps: usize) -> usize {
         self.written.len() / self.wanted as usize - self.pixel(steps)
     }
