@@ -84,12 +84,13 @@ fn go_on(decoder: Decoder, message: &[u8], out: &mut [u8], steps: usize, require
     let end = walked.place;
     let last = end.current;
     let held = end.slots;
+    let still = pixels - end.pixel;
     let next = Decoder {
         header,
         wanted,
         at: end.at,
         pixel: end.pixel,
-        left: pixels - end.pixel,
+        left: still,
         current: last,
         slots: held,
     };

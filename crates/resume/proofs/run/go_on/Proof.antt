@@ -109,8 +109,8 @@ part-walk-start c = before-fits (c .before .before .before .before .before .befo
 add-least : tie.Need-add-least
 add-least c = record { fits = omega (arith, small (c .before .before .before .before .before .before .before)) }
 
-sub-t21 : tie.Need-sub-t21
-sub-t21 c = omega (arith, lies (c .before .before .before .before .before .before) .1, adds (c .before .before .before .before .before .before .before .before .before .before .before .before .before .before .before))
+sub-still : tie.Need-sub-still
+sub-still c = omega (arith, lies (c .before .before .before .before .before .before) .1, adds (c .before .before .before .before .before .before .before .before .before .before .before .before .before .before .before))
 
 returns : tie.Need-returns
 returns c =
@@ -146,7 +146,7 @@ go-on-spec =
     add-least
     (λ c κs. search needs)
     (λ c κs. search needs)
-    sub-t21
+    sub-still
     (λ c. search needs)
     returns
     (λ c. search needs)
