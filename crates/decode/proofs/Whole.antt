@@ -7,7 +7,7 @@ use mathlib.Core.List.{List}
 use Prim.Native.Nat.{ℕ, zero, suc, _+_, _-_, _*_, _≤_, _<_}
 use native.Mathlib.Nat.{zero-mul, sub-zero, add-mul, mul-le-mul}
 use native.Mathlib.Omega.{arith}
-use borrow.Author.Tests.{ltb-true, ltb-false, lt-ltb, le-ltb, le-leb}
+use borrow.Author.Tests.{ltb-true, ltb-false, lt-ltb, le-ltb, le-leb, eq-eqb}
 use lib.Dec.{ltb}
 use lib.ListN.{length, drop}
 use Rattle.pixel.specs.declared.error.Error.the-variants.{UnexpectedBufferEnd}
@@ -200,13 +200,13 @@ module _ (header : Header) (wanted : ℕ) (message : List ℕ) (few : wanted ≤
 module _ (header : Header) (w : Channels) (message out : List ℕ) (opened : Opened header message)
     (room : pixelCount header * channelsNumber w ≤ length out) where
   -- the input fits
-  passes : fits header (channelsNumber w) (length message) (pixelCount header) 14 0 (length out) ≡ true
+  passes : fits header (channelsNumber w) (length message) (pixelCount header) (pixelCount header) 14 0 (length out) ≡ true
   unfolding fits
   passes =
-      simp (is-true (dimensionsFit (header .width) (header .height)) (opened .fit), le-leb 14 (length message) (opened .whole), le-leb 0 (pixelCount header) (omega arith), le-leb (pixelCount header) (pixelCount header + 1) (omega arith), sub-zero, le-leb (pixelCount header * channelsNumber w) (length out) room)
+      simp (is-true (dimensionsFit (header .width) (header .height)) (opened .fit), le-leb 14 (length message) (opened .whole), eq-eqb (0 + pixelCount header) (pixelCount header) (omega arith), le-leb (pixelCount header) (pixelCount header + 1) (omega arith), le-leb (pixelCount header * channelsNumber w) (length out) room)
 
   abbrev end-is : End
-  end-is = endOf (walkingInto header (channelsNumber w) message (pixelCount header) startPlace out)
+  end-is = endOf (walkingInto header (channelsNumber w) message (pixelCount header) (pixelCount header) startPlace out)
 
   abbrev all : Reading
   all = remaining decoder header (channelsNumber w) message startPlace

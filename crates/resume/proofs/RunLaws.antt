@@ -7,7 +7,7 @@ use mathlib.Core.List.{List, [], _++_, append-assoc, append-nil}
 use Prim.Native.Nat.{ℕ, zero, suc, _+_, _-_, _*_, _≤_, _<_, min}
 use native.Mathlib.Nat.{sub-zero, add-mul, add-assoc, mul-le-mul-right, le-of-lt}
 use native.Mathlib.Omega.{arith}
-use borrow.Author.Tests.{ltb-true, ltb-false, lt-ltb, le-ltb, leb-true, leb-false, le-leb}
+use borrow.Author.Tests.{ltb-true, ltb-false, lt-ltb, le-ltb, leb-true, leb-false, le-leb, eq-eqb}
 use borrow.Rule.Slice.PartMut.{putMid, post-is}
 use lib.Dec.{T, ltb, leb, leb→le}
 use lib.ListN.{length, take, drop, length-drop, take-append-drop, drop-of-length-le}
@@ -275,7 +275,7 @@ walk-lies header wanted m from (suc n) place part lies =
 module _ (m : List ℕ) (s : State) (out : List ℕ) (steps : ℕ) (sets : Sets m s out) (inside : s .place .at ≤ length m)
     (w : Channels) (wants : channelsNumber w ≡ s .wanted) (n : ℕ) (few : n ≡ min steps (s .left + 1))
     (part : List ℕ) (rest : part ≡ drop (s .place .pixel * s .wanted) out)
-    (walk : Walk) (walked : walk ≡ walkingInto (s .header) (channelsNumber w) m n (s .place) part) where
+    (walk : Walk) (walked : walk ≡ walkingInto (s .header) (channelsNumber w) m (s .left) n (s .place) part) where
   abbrev before : List ℕ
   before = take (s .place .pixel * s .wanted) out
 
@@ -285,18 +285,18 @@ module _ (m : List ℕ) (s : State) (out : List ℕ) (steps : ℕ) (sets : Sets 
   upto : s .place .pixel * s .wanted ≤ length out
   upto = omega (arith, mul-le-mul-right (s .wanted) within, sets .room)
 
-  -- there is room in the part for what is missing
-  room : (pixelCount (s .header) - s .place .pixel) * s .wanted ≤ length part
+  -- there is room in the part for the pixels left
+  room : s .left * s .wanted ≤ length part
   room =
-      let split : pixelCount (s .header) * s .wanted ≡ s .place .pixel * s .wanted + (pixelCount (s .header) - s .place .pixel) * s .wanted =
-      ap (λ (p : ℕ). p * s .wanted) (omega (arith, within)) ∙ add-mul (s .place .pixel) (pixelCount (s .header) - s .place .pixel) (s .wanted) in
+      let split : pixelCount (s .header) * s .wanted ≡ s .place .pixel * s .wanted + s .left * s .wanted =
+      ap (λ (p : ℕ). p * s .wanted) (sym (adds-up s (sets .well))) ∙ add-mul (s .place .pixel) (s .left) (s .wanted) in
       rw (rest, length-drop) (omega (arith, split, sets .room))
 
-  passes : fits (s .header) (channelsNumber w) (length m) n (s .place .at) (s .place .pixel) (length part) ≡ true
+  passes : fits (s .header) (channelsNumber w) (length m) (s .left) n (s .place .at) (s .place .pixel) (length part) ≡ true
   unfolding fits
   passes =
       rw wants
-      (simp (is-true (dimensionsFit (s .header .width) (s .header .height)) (formed s (sets .well) .header-passes), le-leb (s .place .at) (length m) inside, le-leb (s .place .pixel) (pixelCount (s .header)) within, le-leb n (pixelCount (s .header) + 1) (omega (arith, few, adds-up s (sets .well))), le-leb ((pixelCount (s .header) - s .place .pixel) * s .wanted) (length part) room))
+      (simp (is-true (dimensionsFit (s .header .width) (s .header .height)) (formed s (sets .well) .header-passes), le-leb (s .place .at) (length m) inside, eq-eqb (s .place .pixel + s .left) (pixelCount (s .header)) (adds-up s (sets .well)), le-leb n (s .left + 1) (omega (arith, few)), le-leb (s .left * s .wanted) (length part) room))
 
   is-walk : walk ≡ walking (s .header) (s .wanted) m (s .place .pixel) n (s .place) part
   unfolding walkingInto

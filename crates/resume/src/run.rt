@@ -78,6 +78,7 @@ fn go_on(decoder: Decoder, message: &[u8], out: &mut [u8], steps: usize, require
         header,
         channels,
         place,
+        left,
         &mut out[from..],
         walk::least(steps, left + 1),
     );

@@ -2,11 +2,10 @@
 -- Assumes nothing.
 use mathlib.Core.Path.{_≡_, sym, _∙_, ap}
 use mathlib.Core.List.{List}
-use Prim.Native.Nat.{ℕ, _+_, _-_, _≤_}
+use Prim.Native.Nat.{ℕ, _+_, _≤_}
 use native.Mathlib.Omega.{arith}
 use Rattle.pixel.specs.declared.Pixel.{Pixel}
 use Rattle.header.specs.declared.Header.{Header}
-use Rattle.header.specs.Header.{pixelCount}
 use Rattle.header.proofs.Laws.{pixels-small}
 use Rattle.rules.specs.Decode.{decoderKeeps}
 use Rattle.rules.specs.Reading.{Place}
@@ -19,28 +18,27 @@ use Rattle.walk.specs.Walking.{walking, standing}
 use Rattle.walk.proofs.Fitting.{Fits}
 use Rattle.walk.proofs.Loop.{standing-still}
 
-module _ {header : Header} {wanted : ℕ} {message : List ℕ} {steps : ℕ} {place : Place} {out : List ℕ}
-    (f : Fits header wanted message steps place out)
-    {missing : ℕ} (counted : missing ≡ pixelCount header - place .pixel) where
-  of-place : Of (header .channels) missing (place .pixel) header
-  of-place = record { counted = omega (arith, f .within); sourced = λ i. header .channels }
+module _ {header : Header} {wanted : ℕ} {message : List ℕ} {left steps : ℕ} {place : Place} {out : List ℕ}
+    (f : Fits header wanted message left steps place out) where
+  of-place : Of (header .channels) left (place .pixel) header
+  of-place = record { counted = sym (f .counted); sourced = λ i. header .channels }
 
   -- a place within what the header says is a spot that lies there
   module _ {l : Lanes} (holds : Holds l (place .current)) where
-    pub lies-first : Lies wanted message missing (spotAt (place .at) 0 steps l) out
+    pub lies-first : Lies wanted message left (spotAt (place .at) 0 steps l) out
     lies-first =
         record {
-          small = omega (arith, pixels-small header (f .fit));
-          few-steps = omega (arith, f .few-steps, pixels-small header (f .fit));
+          small = omega (arith, f .counted, pixels-small header (f .fit));
+          few-steps = omega (arith, f .few-steps, f .counted, pixels-small header (f .fit));
           inside = f .inside;
           within = omega arith;
-          room = rw counted (f .room);
+          room = f .room;
           narrow = holds .narrow;
         }
 
     -- the rounds may begin where its pixel is one that a chunk leaves
     pub stands-first :
-        decoderKeeps wanted (place .current) ≡ place .current → Stands wanted message missing (spotAt (place .at) 0 steps l) out
+        decoderKeeps wanted (place .current) ≡ place .current → Stands wanted message left (spotAt (place .at) 0 steps l) out
     stands-first kept =
         record { lies = lies-first; kept = ap (decoderKeeps wanted) (holds .is) ∙ kept ∙ sym (holds .is) }
 
@@ -58,26 +56,26 @@ module _ {header : Header} {wanted : ℕ} {message : List ℕ} {steps : ℕ} {pl
 
       -- a walk that ends from there
       module _ {end : Reached} {slots′ : List Pixel} {out′ : List ℕ}
-          (e : Ends wanted message (header .channels) missing (spotAt (place .at) 0 steps l) slots out end slots′ out′) where
+          (e : Ends wanted message (header .channels) left (spotAt (place .at) 0 steps l) slots out end slots′ out′) where
         pub ends-first : reachedIn (place .pixel) end slots′ out′ ≡ walking header wanted message (place .pixel) steps place out
         ends-first = sym (e .whole (place .pixel) header of-place) ∙ from-first
 
       module _ {spot : Spot} {slots′ : List Pixel} {out′ : List ℕ}
-          (o : Onward wanted message (header .channels) missing (spotAt (place .at) 0 steps l) slots out spot slots′ out′) where
+          (o : Onward wanted message (header .channels) left (spotAt (place .at) 0 steps l) slots out spot slots′ out′) where
         -- with no pixel missing after the rounds nothing is left
         pub ends-whole :
-            spot .done ≡ missing
+            spot .done ≡ left
             → standing (spot .spare) (placeIn (place .pixel) spot slots′) out′
             ≡ walking header wanted message (place .pixel) steps place out
         ends-whole all =
             sym (standing-still header wanted message (place .pixel) (spot .spare) (placeIn (place .pixel) spot slots′) out′
-            (omega (arith, f .within)))
+            (omega (arith, f .counted)))
             ∙ sym (o .whole (place .pixel) header of-place) ∙ from-first
 
         -- a walk that goes on from where the rounds came to, and ends
         pub ends-after :
             {end : Reached} {slots″ : List Pixel} {out″ : List ℕ}
-            → Ends wanted message (header .channels) missing spot slots′ out′ end slots″ out″
+            → Ends wanted message (header .channels) left spot slots′ out′ end slots″ out″
             → reachedIn (place .pixel) end slots″ out″ ≡ walking header wanted message (place .pixel) steps place out
         ends-after e =
             sym (o .whole (place .pixel) header of-place ∙ e .whole (place .pixel) header of-place) ∙ from-first
@@ -85,6 +83,6 @@ module _ {header : Header} {wanted : ℕ} {message : List ℕ} {steps : ℕ} {pl
   -- where a walk came to is within the picture
   pub arrives :
       {spot : Spot} {slots : List Pixel} {out′ : List ℕ} {end : Reached} {slots′ : List Pixel} {out″ : List ℕ}
-      → Ends wanted message (header .channels) missing spot slots out′ end slots′ out″
+      → Ends wanted message (header .channels) left spot slots out′ end slots′ out″
       → Narrow (end .spot .lanes) × (place .pixel + end .spot .done ≤ 400000000)
-  arrives e = (e .narrow, omega (arith, e .within, f .within, pixels-small header (f .fit)))
+  arrives e = (e .narrow, omega (arith, e .within, f .counted, pixels-small header (f .fit)))

@@ -3,7 +3,7 @@
 use mathlib.Core.Bool.{Bool, true, false, cond, _&&_}
 use mathlib.Core.List.{List}
 use Prim.Native.Nat.{ℕ, zero, suc, _+_, _-_, _*_}
-use lib.Dec.{ltb, leb}
+use lib.Dec.{ltb, leb, eqb}
 use lib.ListN.{length}
 use Rattle.header.specs.declared.Header.{Header}
 use Rattle.header.specs.Header.{dimensionsFit, pixelCount}
@@ -51,18 +51,18 @@ module _ (header : Header) (wanted : ℕ) (message : List ℕ) (from : ℕ) wher
       cond (ltb (place .pixel) (pixelCount header))
       (walkOn (walking n) (suc n) place out (move decoder header wanted message place)) (standing (suc n) place out)
 
--- the header passes its test; byte position, pixel position, steps and the pixels' bytes lie within what there is
-unfoldable pub fits : Header → ℕ → ℕ → ℕ → ℕ → ℕ → ℕ → Bool
-fits header wanted size steps at pixel room =
+-- the header passes its test, pixel position and pixels left add up to the pixels; byte position, steps and the
+-- pixels' bytes lie within what there is
+unfoldable pub fits : Header → ℕ → ℕ → ℕ → ℕ → ℕ → ℕ → ℕ → Bool
+fits header wanted size left steps at pixel room =
     dimensionsFit (header .width) (header .height)
     && (leb at size
-    && (leb pixel (pixelCount header)
-    && (leb steps (pixelCount header + 1) && leb ((pixelCount header - pixel) * wanted) room)))
+    && (eqb (pixel + left) (pixelCount header) && (leb steps (left + 1) && leb (left * wanted) room)))
 
--- at most `steps` chunks where the input fits, and else none
-unfoldable pub walkingInto : Header → ℕ → List ℕ → ℕ → rules.Place → List ℕ → Walk
-walkingInto header wanted message steps place out =
-    cond (fits header wanted (length message) steps (place .at) (place .pixel) (length out))
+-- with `left` pixels left, at most `steps` chunks where the input fits, and else none
+unfoldable pub walkingInto : Header → ℕ → List ℕ → ℕ → ℕ → rules.Place → List ℕ → Walk
+walkingInto header wanted message left steps place out =
+    cond (fits header wanted (length message) left steps (place .at) (place .pixel) (length out))
     (walking header wanted message (place .pixel) steps place out) (standing steps place out)
 
 -- how a walk of every chunk ends: whether the next one is cut short, the byte position, and the output

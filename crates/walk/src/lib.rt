@@ -42,18 +42,19 @@ pub struct Ended {
     pub at: usize,
 }
 
-// Does at most `steps` chunks from a place, into the part of the output that starts at its pixel. Where the input
-// does not fit, it does none.
+// Does at most `steps` chunks from a place with `left` pixels left, into the part of the output that starts at its
+// pixel. Where the input does not fit, it does none.
 pub fn walk(
     message: &[u8],
     header: Header,
     wanted: Channels,
     place: Place,
+    left: usize,
     out: &mut [u8],
     steps: usize,
 ) -> Walked
     ensures { λ r. ⌜ walkOf r (now (out .exit)) ≡ walkingInto header (channelsNumber wanted)
-        (now (message .entry)) steps (placeOf place) (now (out .entry)) ⌝ }
+        (now (message .entry)) left steps (placeOf place) (now (out .entry)) ⌝ }
 {
     if !fits(
         message.len(),
@@ -61,6 +62,7 @@ pub fn walk(
         wanted,
         place.at,
         place.pixel,
+        left,
         out.len(),
         steps,
     ) {
@@ -72,7 +74,6 @@ pub fn walk(
     }
     let source = header.channels;
     let from = place.pixel;
-    let missing = header.n_pixels() - from;
     let start = place.current;
     let current = packed::of_pixel(start);
     let slots = place.slots;
@@ -84,7 +85,7 @@ pub fn walk(
             spare: steps,
             lanes: lanes::of_packed(current),
         };
-        let end = careful::careful(message, wanted, source, missing, first, &mut held, out);
+        let end = careful::careful(message, wanted, source, left, first, &mut held, out);
         return spot::arrived(from, end, held);
     }
     let at = place.at;
@@ -92,21 +93,21 @@ pub fn walk(
         message,
         wanted,
         source,
-        missing,
+        left,
         at,
         steps,
         current,
         &mut held,
         out,
     );
-    let end = careful::careful(message, wanted, source, missing, spot, &mut held, out);
+    let end = careful::careful(message, wanted, source, left, spot, &mut held, out);
     spot::arrived(from, end, held)
 }
 
 // Does every chunk of a message from its start. Where the input does not fit, it does none.
 pub fn whole(message: &[u8], header: Header, wanted: Channels, out: &mut [u8]) -> Ended
     ensures { λ r. ⌜ endedOf r (now (out .exit)) ≡ endOf (walkingInto header (channelsNumber wanted)
-        (now (message .entry)) (pixelCount header) startPlace (now (out .entry))) ⌝ }
+        (now (message .entry)) (pixelCount header) (pixelCount header) startPlace (now (out .entry))) ⌝ }
 {
     let source = header.channels;
     let missing = header.n_pixels();
@@ -116,6 +117,7 @@ pub fn whole(message: &[u8], header: Header, wanted: Channels, out: &mut [u8]) -
         wanted,
         QOI_HEADER_SIZE,
         0,
+        missing,
         out.len(),
         missing,
     ) {
@@ -158,10 +160,11 @@ fn fits(
     wanted: Channels,
     at: usize,
     pixel: usize,
+    left: usize,
     room: usize,
     steps: usize,
 ) -> bool
-    ensures { λ r. ⌜ r ≡ fitting header (channelsNumber wanted) message steps at pixel room ⌝ }
+    ensures { λ r. ⌜ r ≡ fitting header (channelsNumber wanted) message left steps at pixel room ⌝ }
 {
     if !header.dimensions_fit() {
         return false;
@@ -173,10 +176,13 @@ fn fits(
     if pixels < pixel {
         return false;
     }
-    if pixels + 1 < steps {
+    if pixels - pixel != left {
         return false;
     }
-    let needed = (pixels - pixel) * (wanted.as_u8() as usize);
+    if left + 1 < steps {
+        return false;
+    }
+    let needed = left * (wanted.as_u8() as usize);
     if room < needed {
         return false;
     }

@@ -1,11 +1,12 @@
 -- `walk::fits` meets its contract: each test is one of the definition's.
 -- Assumes nothing.
 use Prim.{tt}
-use Prim.Native.Nat.{_+_, _-_, _*_, _≤_}
+use mathlib.Core.Path.{_≡_}
+use Prim.Native.Nat.{_+_, _*_, _≤_}
 use native.Mathlib.Nat.{lt-of-le-of-lt, mul-le-mul}
 use native.Mathlib.Omega.{arith}
 use borrow.Author.Needs.{needs}
-use borrow.Author.Tests.{le-leb, lt-leb, not-true}
+use borrow.Author.Tests.{le-leb, lt-leb, eq-eqb, ne-eqb, not-true}
 use lib.Dec.{lit<}
 use Rattle.header.specs.Header.{pixelCount}
 use Rattle.header.proofs.Laws.{fitted, fitted-small}
@@ -28,37 +29,51 @@ returns-3 : tie.Need-returns-3
 unfolding fits
 returns-3 c =
     let a = c .before .before .before .before .before .args in
-    rw (fitted (a .header) (c .before .before .before .before .dimensions-fit .ensures) (c .before .before .before .if1 .left), le-leb (a .at) (a .message) (c .before .before .if2 .left), lt-leb (a .pixel) (pixelCount (a .header)) (omega (arith, c .before .n-pixels .ensures)))
+    let n = c .before .n-pixels .ensures in
+    rw (fitted (a .header) (c .before .before .before .before .dimensions-fit .ensures) (c .before .before .before .if1 .left), le-leb (a .at) (a .message) (c .before .before .if2 .left), ne-eqb (a .pixel + a .left) (pixelCount (a .header)) (λ e. omega (arith, e, c .if3 .taken)))
 
 returns-4 : tie.Need-returns-4
 unfolding fits
 returns-4 c =
     let a = c .before .before .before .before .before .before .args in
     let n = c .before .before .n-pixels .ensures in
-    rw (fitted (a .header) (c .before .before .before .before .before .dimensions-fit .ensures) (c .before .before .before .before .if1 .left), le-leb (a .at) (a .message) (c .before .before .before .if2 .left), le-leb (a .pixel) (pixelCount (a .header)) (omega arith), lt-leb (a .steps) (pixelCount (a .header) + 1) (omega arith))
+    let within = c .before .if3 .left in
+    rw (fitted (a .header) (c .before .before .before .before .before .dimensions-fit .ensures) (c .before .before .before .before .if1 .left), le-leb (a .at) (a .message) (c .before .before .before .if2 .left), ne-eqb (a .pixel + a .left) (pixelCount (a .header)) (λ e. c .if4 .taken (omega (arith, e))))
 
-mul-needed : tie.Need-mul-needed
-mul-needed c = record { fits = lt-of-le-of-lt (mul-le-mul missing small) (lit< tt) }
-  where
-    missing : c .before .before .before .n-pixels .result - c .before .before .before .before .before .before .before .args .pixel ≤ 400000000
-    missing = omega (arith, fitted-small (c .before .before .before .before .before .before .before .args .header) (c .before .before .before .before .before .before .dimensions-fit .ensures) (c .before .before .before .before .before .if1 .left) (c .before .before .before .n-pixels .ensures))
+-- pixel position and pixels left are the pixels, which are not too many
+counted : (c : tie.Else4) → (let a = c .before .before .before .before .before .before .args in (a .pixel + a .left ≡ pixelCount (a .header)) × (a .left ≤ 400000000))
+counted c =
+    let a = c .before .before .before .before .before .before .args in
+    let n = c .before .before .n-pixels .ensures in
+    let within = c .before .if3 .left in
+    let rest = c .if4 .left in
+    (omega arith, omega (arith, fitted-small (a .header) (c .before .before .before .before .before .dimensions-fit .ensures) (c .before .before .before .before .if1 .left) n))
 
-    small : c .as-u8 .result ≤ 255
-    small = omega (arith, c .as-u8 .ok)
+add-if5 : tie.Need-add-if5
+add-if5 c = record { fits = omega (arith, counted c .1) }
 
 returns-5 : tie.Need-returns-5
 unfolding fits
 returns-5 c =
-    let a = c .before .before .before .before .before .before .before .before .args in
-    let n = c .before .before .before .before .n-pixels .ensures in
-    rw (fitted (a .header) (c .before .before .before .before .before .before .before .dimensions-fit .ensures) (c .before .before .before .before .before .before .if1 .left), le-leb (a .at) (a .message) (c .before .before .before .before .before .if2 .left), le-leb (a .pixel) (pixelCount (a .header)) (omega arith), le-leb (a .steps) (pixelCount (a .header) + 1) (omega arith), lt-leb ((pixelCount (a .header) - a .pixel) * channelsNumber (a .wanted)) (a .room) (rw (← n, ← c .before .as-u8 .ensures) (c .if5 .taken)))
+    let a = c .before .before .before .before .before .before .before .args in
+    rw (fitted (a .header) (c .before .before .before .before .before .before .dimensions-fit .ensures) (c .before .before .before .before .before .if1 .left), le-leb (a .at) (a .message) (c .before .before .before .before .if2 .left), eq-eqb (a .pixel + a .left) (pixelCount (a .header)) (counted (c .before) .0), lt-leb (a .steps) (a .left + 1) (c .if5 .taken))
+
+mul-needed : tie.Need-mul-needed
+mul-needed c =
+    let small : c .as-u8 .result ≤ 255 = omega (arith, c .as-u8 .ok) in
+    record { fits = lt-of-le-of-lt (mul-le-mul (counted (c .before .before) .1) small) (lit< tt) }
 
 returns-6 : tie.Need-returns-6
 unfolding fits
 returns-6 c =
-    let a = c .before .before .before .before .before .before .before .before .args in
-    let n = c .before .before .before .before .n-pixels .ensures in
-    rw (fitted (a .header) (c .before .before .before .before .before .before .before .dimensions-fit .ensures) (c .before .before .before .before .before .before .if1 .left), le-leb (a .at) (a .message) (c .before .before .before .before .before .if2 .left), le-leb (a .pixel) (pixelCount (a .header)) (omega arith), le-leb (a .steps) (pixelCount (a .header) + 1) (omega arith), le-leb ((pixelCount (a .header) - a .pixel) * channelsNumber (a .wanted)) (a .room) (rw (← n, ← c .before .as-u8 .ensures) (c .if5 .left)))
+    let a = c .before .before .before .before .before .before .before .before .before .args in
+    rw (fitted (a .header) (c .before .before .before .before .before .before .before .before .dimensions-fit .ensures) (c .before .before .before .before .before .before .before .if1 .left), le-leb (a .at) (a .message) (c .before .before .before .before .before .before .if2 .left), eq-eqb (a .pixel + a .left) (pixelCount (a .header)) (counted (c .before .before .before) .0), le-leb (a .steps) (a .left + 1) (c .before .before .if5 .left), lt-leb (a .left * channelsNumber (a .wanted)) (a .room) (rw (← c .before .as-u8 .ensures) (c .if6 .taken)))
+
+returns-7 : tie.Need-returns-7
+unfolding fits
+returns-7 c =
+    let a = c .before .before .before .before .before .before .before .before .before .args in
+    rw (fitted (a .header) (c .before .before .before .before .before .before .before .before .dimensions-fit .ensures) (c .before .before .before .before .before .before .before .if1 .left), le-leb (a .at) (a .message) (c .before .before .before .before .before .before .if2 .left), eq-eqb (a .pixel + a .left) (pixelCount (a .header)) (counted (c .before .before .before) .0), le-leb (a .steps) (a .left + 1) (c .before .before .if5 .left), le-leb (a .left * channelsNumber (a .wanted)) (a .room) (rw (← c .before .as-u8 .ensures) (c .if6 .left)))
 
 pub fits-spec : {M : Type 1} → statement M
 fits-spec =
@@ -69,10 +84,11 @@ fits-spec =
     returns-2
     (λ c κs. search needs)
     returns-3
-    (λ c. record { fits = omega (arith, fitted-small (c .before .before .before .before .before .args .header) (c .before .before .before .before .dimensions-fit .ensures) (c .before .before .before .if1 .left) (c .before .n-pixels .ensures)) })
     returns-4
+    add-if5
+    returns-5
     (λ c κs. search needs)
     (λ c. search needs)
     mul-needed
-    returns-5
-    returns-6)
+    returns-6
+    returns-7)

@@ -3,8 +3,6 @@
 use mathlib.Core.Path.{_≡_, refl, sym, subst, _∙_, ap}
 use mathlib.Core.List.{map}
 use Prim.{tt}
-use Prim.Native.Nat.{_-_}
-use native.Mathlib.Omega.{arith}
 use lib.Dec.{T}
 use lib.ListN.{replicate}
 use borrow.Author.Needs.{needs}
@@ -14,7 +12,6 @@ use Rattle.pixel.specs.declared.types.Channels.the-variants.{Rgb, Rgba}
 use Rattle.pixel.specs.Colour.{startPixel}
 use Rattle.pixel.specs.Packed.{unpacked}
 use Rattle.pixel.specs.Types.{channelsNumber}
-use Rattle.header.specs.Header.{pixelCount}
 use Rattle.rules.specs.Decode.{decoderKeeps}
 use Rattle.rules.specs.Reading.{startPlace}
 use Rattle.walk.specs.declared.lanes.Lanes.{Lanes}
@@ -39,15 +36,12 @@ returns c = rw (← c .before .before .n-pixels .ensures, ← c .before .fits2 .
 fit :
     (c : tie.Else1)
     → (let a = c .before .before .before .before .before .args in
-    Fits (a .header) (channelsNumber (a .wanted)) (a .message .now) (c .before .before .n-pixels .result) startPlace (a .out .now))
+    Fits (a .header) (channelsNumber (a .wanted)) (a .message .now) (c .before .before .n-pixels .result) (c .before .before .n-pixels .result) startPlace (a .out .now))
 unfolding startPlace
 fit c =
     let a = c .before .before .before .before .before .args in
-    fitted (a .header) (channelsNumber (a .wanted)) (a .message .now) (c .before .before .n-pixels .result) startPlace (a .out .now)
+    fitted (a .header) (channelsNumber (a .wanted)) (a .message .now) (c .before .before .n-pixels .result) (c .before .before .n-pixels .result) startPlace (a .out .now)
     (subst T (sym (not-false (c .before .fits2 .result) (c .if1 .left)) ∙ c .before .fits2 .ensures) tt)
-
-counted : (c : tie.Else1) → c .before .before .n-pixels .result ≡ pixelCount (c .before .before .before .before .before .args .header) - 0
-counted c = omega (arith, c .before .before .n-pixels .ensures)
 
 -- lanes that hold the packed start hold the start
 held-there : (c : tie.After-pack) {l : Lanes} → Holds l (unpacked (c .pack .result)) → Holds l (startPlace .current)
@@ -66,14 +60,14 @@ kept c = start-kept (c .before .before .before .before .before .args .wanted)
 rounds-requires : tie.Need-rounds-requires
 unfolding startPlace
 rounds-requires c κs =
-    λ l holds. stands-first (fit (c .before .before .before)) (counted (c .before .before .before)) (held-there (c .before .before) holds) (kept (c .before .before .before))
+    λ l holds. stands-first (fit (c .before .before .before)) (held-there (c .before .before) holds) (kept (c .before .before .before))
 
 returns-2 : tie.Need-returns-2
 unfolding walkingInto startPlace
 returns-2 c =
     rw (← c .before .before .before .before .before .before .before .before .before .before .n-pixels .ensures, ← c .before .before .before .before .before .before .before .before .before .fits2 .ensures, not-false (c .before .before .before .before .before .before .before .before .before .fits2 .result) (c .before .before .before .before .before .before .before .before .if1 .left))
     (ap endOf
-    (ends-whole (fit (c .before .before .before .before .before .before .before .before)) (counted (c .before .before .before .before .before .before .before .before)) (held-there (c .before .before .before .before .before .before .before) (c .before .before .before .before .rounds .ensures .1)) clear-slots
+    (ends-whole (fit (c .before .before .before .before .before .before .before .before)) (held-there (c .before .before .before .before .before .before .before) (c .before .before .before .before .rounds .ensures .1)) clear-slots
     (c .before .before .before .before .rounds .ensures .2) (c .if2 .taken)))
 
 returns-3 : tie.Need-returns-3
@@ -81,7 +75,7 @@ unfolding walkingInto startPlace
 returns-3 c =
     rw (← c .before .before .before .before .before .before .before .before .before .before .before .before .before .before .before .before .n-pixels .ensures, ← c .before .before .before .before .before .before .before .before .before .before .before .before .before .before .before .fits2 .ensures, not-false (c .before .before .before .before .before .before .before .before .before .before .before .before .before .before .before .fits2 .result) (c .before .before .before .before .before .before .before .before .before .before .before .before .before .before .if1 .left))
     (ap endOf
-    (ends-after (fit (c .before .before .before .before .before .before .before .before .before .before .before .before .before .before)) (counted (c .before .before .before .before .before .before .before .before .before .before .before .before .before .before)) (held-there (c .before .before .before .before .before .before .before .before .before .before .before .before .before) (c .before .before .before .before .before .before .before .before .before .before .rounds .ensures .1)) clear-slots
+    (ends-after (fit (c .before .before .before .before .before .before .before .before .before .before .before .before .before .before)) (held-there (c .before .before .before .before .before .before .before .before .before .before .before .before .before) (c .before .before .before .before .before .before .before .before .before .before .rounds .ensures .1)) clear-slots
     (c .before .before .before .before .before .before .before .before .before .before .rounds .ensures .2) (c .before .before .before .careful .ensures)))
 
 pub whole-spec : {M : Type 1} → statement M

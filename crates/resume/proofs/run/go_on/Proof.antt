@@ -62,7 +62,7 @@ abbrev start : tie.After-walk → tie.Start
 start c = c .before .before .before .before .before .before .before .before .before
 
 abbrev walk : tie.After-walk → Walk
-walk c = walkOf (c .walk .result) (c .walk .last .1 .1 .1 .1 .0)
+walk c = walkOf (c .walk .result) (c .walk .last .1 .1 .1 .1 .1 .0)
 
 -- the run is the walk
 ran :
