@@ -232,8 +232,8 @@ chunk·size κs a z z′ e e′ ok ok′ p q = (p ∙ sym q, refl)
 -- ---- crate `walk`
 pub walk·walk : Determined walk.walk.Kinds.ps walk.walk.Kinds.r walk.walk.Reads.Post
 walk·walk κs a z z′ e e′ ok ok′ p q =
-    let same = walk-determined z z′ (e .1 .1 .1 .1 .0) (e′ .1 .1 .1 .1 .0) (p ∙ sym q) in
-    (same .0, λ i. (tt, (tt, (tt, (tt, (same .1 i, (tt, tt)))))))
+    let same = walk-determined z z′ (e .1 .1 .1 .1 .1 .0) (e′ .1 .1 .1 .1 .1 .0) (p ∙ sym q) in
+    (same .0, λ i. (tt, (tt, (tt, (tt, (tt, (same .1 i, (tt, tt))))))))
 
 pub walk·whole : Determined walk.whole.Kinds.ps walk.whole.Kinds.r walk.whole.Reads.Post
 walk·whole κs a z z′ e e′ ok ok′ p q =
