@@ -77,13 +77,6 @@ module _ {header : Header} {message : List ℕ} {pixels left at chunks : ℕ}
         let many : times ≡ byte - 191 = often ∙ rw (le-ltb byte 192 high) in
         omega (arith, lead)
 
-    pub some : 1 ≤ times
-    some = go (decLe 192 byte)
-      where
-        go : Dec (192 ≤ byte) → 1 ≤ times
-        go (yes high) = let e = run high in omega arith
-        go (no less) = let e = single (lt-of-not-le less) in omega arith
-
     pub past-one : times ≤ left → Head header message pixels (left - times) (at + 1) (chunks + 1)
     unfolding sizeOf
     past-one fits = go (decLe 192 byte) (decLe 64 byte)

@@ -18,32 +18,47 @@ pub struct Counted {
     pub chunks: usize,
 }
 
-// On while 8 bytes are left. It refuses nothing: it stops before an ff that is stuck and before a run that is too
-// long, and the loop over every chunk refuses them.
-// The chunks of one byte share an arm, and each arm has its one constant size: the arms are hard to foretell, and a
-// size that is selected makes the next byte's place wait for this byte.
+// Rounds, one after another while they get on.
 pub fn quick(message: &[u8], header: Header, start: Counted) -> Counted
     requires { ⌜ Head header (now message) (pixelCount header) (start .left) (start .at) (start .chunks) ⌝ }
     ensures { λ r. ⌜ Head header (now (message .entry)) (pixelCount header) (r .left) (r .at) (r .chunks) ⌝ }
 {
+    let mut reached = start;
+    let mut before = start.left + 1;
+    while reached.left < before {
+        before = reached.left;
+        reached = round(message, header, reached);
+    }
+    reached
+}
+
+// A round: n chunks, where n pixels and 8n bytes are left. It refuses nothing: it stops before an ff that is stuck and
+// before a run that leaves too few pixels, and the loop over every chunk refuses what is to be refused.
+// The chunks of one byte share an arm, and each arm has its one constant size: the arms are hard to foretell, and a
+// size that is selected makes the next byte's place wait for this byte.
+fn round(message: &[u8], header: Header, start: Counted) -> Counted
+    requires { ⌜ Head header (now message) (pixelCount header) (start .left) (start .at) (start .chunks) ⌝ }
+    ensures { λ r. ⌜ Head header (now (message .entry)) (pixelCount header) (r .left) (r .at) (r .chunks) ⌝ }
+{
+    let source = header.channels;
     let mut at = start.at;
     let mut left = start.left;
-    let mut chunks = start.chunks;
-    while 0 < left {
-        if message.len() - at < 8 {
-            break;
-        }
+    let mut quota = (message.len() - at) / 8;
+    if left < quota {
+        quota = left;
+    }
+    let most = start.chunks + quota;
+    while 0 < quota {
         let byte = message[at];
         if byte / 64 == 2 {
             at += 2;
             left -= 1;
-            chunks += 1;
+            quota -= 1;
         } else if byte == 254 {
             at += 4;
             left -= 1;
-            chunks += 1;
+            quota -= 1;
         } else if byte == 255 {
-            let source = header.channels;
             match source {
                 Channels::Rgb => {
                     break;
@@ -51,20 +66,24 @@ pub fn quick(message: &[u8], header: Header, start: Counted) -> Counted
                 Channels::Rgba => {
                     at += 5;
                     left -= 1;
-                    chunks += 1;
+                    quota -= 1;
                 }
             }
         } else {
             let times = times(byte);
-            if left < times {
+            if left - quota + 1 < times {
                 break;
             }
             at += 1;
             left -= times;
-            chunks += 1;
+            quota -= 1;
         }
     }
-    Counted { at, left, chunks }
+    Counted {
+        at,
+        left,
+        chunks: most - quota,
+    }
 }
 
 // How many pixels a chunk of one byte brings: c0 and more is a run.
