@@ -1,7 +1,5 @@
 -- `walk::spot::arrived` meets its contract: the end's spot as a place.
 -- Assumes nothing.
-use mathlib.Core.List.{List}
-use Prim.Native.Nat.{ℕ}
 use borrow.Author.Needs.{needs}
 use Rattle.walk.proofs.spot.arrived.Statement.{statement}
 use Rattle.walk.proofs.spot.arrived.Tie as tie
