@@ -24,7 +24,8 @@ const ENTRY: usize = 1024;
 /// So many differences are shown.
 const SHOWN: u64 = 5;
 
-/// A state: a record and the message that it is of, how many pixels more are left than the record says, and steps to run.
+/// A state: a record and the message that it is of, how many pixels more are left than the picture has from
+/// the pixel position on, and steps to run.
 struct State {
     message: Vec<u8>,
     record: Record,

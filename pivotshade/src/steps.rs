@@ -55,24 +55,25 @@ impl Record {
         }
     }
 
-    /// The record in these bytes: every pixel that is not done is left.
-    fn read(bytes: [u8; RECORD_MAX], length: u64) -> Self {
-        let mut record = Self {
+    /// The record in these bytes, before the pixels left are known.
+    fn with_none_left(bytes: [u8; RECORD_MAX], length: u64) -> Self {
+        Self {
             bytes,
             length: length as usize,
             left: 0,
-        };
+        }
+    }
+
+    /// The record in these bytes: every pixel that is not done is left.
+    fn read(bytes: [u8; RECORD_MAX], length: u64) -> Self {
+        let mut record = Self::with_none_left(bytes, length);
         record.left = record.header().n_pixels() - record.pixels_done();
         record
     }
 
     /// The record in these bytes, to which a run from this one led.
     fn next(&self, bytes: [u8; RECORD_MAX], length: u64) -> Self {
-        let mut next = Self {
-            bytes,
-            length: length as usize,
-            left: 0,
-        };
+        let mut next = Self::with_none_left(bytes, length);
         next.left = self.left - (next.pixels_done() - self.pixels_done());
         next
     }

@@ -142,9 +142,6 @@ module _ (m : List ℕ) where
               shaped = shaped-next (s .header) (s .wanted) (s .place) k (sets .shaped) sound;
             }
 
-        further : s .place .pixel < nextState s k .place .pixel
-        further = advances decoder (s .header) (s .wanted) (s .place) k (sound .once) missing
-
         walks-chunk :
             (n : ℕ)
             → running m n (nextState s k) (steppedOver s (bytesBy s k) out)

@@ -164,7 +164,7 @@ module _ (s : State) (typed : Typed s) (well : T (wellFormed s)) where
   none-left : length (drop 260 (s .place .current .rgba ++ pixelsBytes (s .place .slots))) ≡ 0
   none-left = simp length-drop (omega (arith, slots-length))
 
-  -- the pixels left are the others of the picture
+  -- the pixels left are those from the pixel position on
   left-back : pixelCount (s .header) - s .place .pixel ≡ s .left
   left-back = omega (arith, adds-up s well)
 

@@ -103,7 +103,7 @@ well-next s k well =
       alpha-passes = kept-opaque (s .wanted) (colourOf (s .place .slots) (s .place .current) k);
     })
 
--- a step more than the pixels missing is enough: more steps end the same way
+-- a step more than the pixels left is enough: more steps end the same way
 pub run-enough :
     (m : List ℕ) (n j : ℕ) (s : State) (o : List ℕ) → pixelCount (s .header) ≤ s .place .pixel + n
     → running m (suc (n + j)) s o ≡ running m (suc n) s o

@@ -65,8 +65,8 @@ unfoldable pub acceptState : State → ℕ → Started
 acceptState s extra =
     cond (wellFormed s) (cond (eqb extra 0) (started s) (notStarted BadState)) (notStarted BadState)
 
--- the current pixel and the slots: 260 bytes, cut short is 1. The record does not hold the pixels left: they are the
--- others of the picture
+-- the current pixel and the slots: 260 bytes, cut short is 1. The record does not hold the pixels left: they are
+-- those from the pixel position on
 unfoldable pub readSlots : Header → ℕ → ℕ → ℕ → List ℕ → Started
 readSlots header wanted at pixel bytes =
     cond (ltb (length bytes) 260) (notStarted UnexpectedBufferEnd)

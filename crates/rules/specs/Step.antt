@@ -43,7 +43,7 @@ atPasses s = leb 14 (s .place .at)
 abbrev pub pixelPasses : State → Bool
 pixelPasses s = leb (s .place .pixel) (pixelCount (s .header))
 
--- pixel position and pixels left add up to the pixels
+-- pixel position and pixels left add up to the pixels (document 02, Q-11)
 abbrev pub leftPasses : State → Bool
 leftPasses s = eqb (s .place .pixel + s .left) (pixelCount (s .header))
 
@@ -94,7 +94,7 @@ pub data Step : Type 0 where
   more : State → List ℕ → Step
   end : Answer → Step
 
--- a state moved on to a place: as many pixels less are left as it brought
+-- a state moved on to a place: the pixels that this brings are no longer left
 abbrev pub movedTo : State → Place → State
 movedTo s place =
     record {

@@ -1,9 +1,10 @@
-// Runs made-up states of a list, and prints a line for each: what the run answers, whether the output is as it was,
-// and what writing the state's record answers.
+// Runs made-up states of a list, and prints a line for each: what the run answers, how many bytes of the output it
+// changed, and what writing the state's record answers; of a record that is refused, its refusal alone.
 //
 // The list comes on standard input, 1,024 bytes a state: the length of a record, two bytes, and the record, padded to
-// 290; eight bytes, how many pixels more are left than the record says, modulo 2^64; one byte, how many steps to run;
-// the length of a message, two bytes, and the message, padded. Numbers have their high byte first.
+// 290; eight bytes, how many pixels more are left than the picture has from the pixel position on, modulo 2^64; one
+// byte, how many steps to run; the length of a message, two bytes, and the message, padded. Numbers have their high
+// byte first.
 ghost use Prim.Native.Nat.{_≤_};
 use libc::STDIN_FILENO;
 use libc::STDOUT_FILENO;

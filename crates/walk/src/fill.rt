@@ -54,7 +54,7 @@ fn few_four(out: &mut [u8], at: usize, times: usize, p: u32)
     put_four(out, last, p);
 }
 
-// Four to sixteen times: four blocks, each but the first over what those before it wrote, or after it.
+// Four to sixteen times: four blocks, each after the one before it, or over it where fewer pixels are left.
 fn some_four(out: &mut [u8], at: usize, times: usize, p: u32)
     requires { ⌜ (4 ≤ times) × (times ≤ 16) × (at + times * 4 ≤ length (now out)) ⌝ }
     ensures { λ _. ⌜ now (out .exit) ≡ pasted at (repeated times (fourBytes (unpacked p))) (now (out .entry)) ⌝ }

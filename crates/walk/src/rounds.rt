@@ -14,7 +14,7 @@ use pixel::packed;
 use pixel::types::Channels;
 
 // From a byte position and a packed pixel, as far as every chunk is sure to be whole: to the last pixel or step, if the
-// message has its marker and no ff is stuck. It takes numbers and no spot, which are handed over in registers.
+// message has its marker and no ff is stuck. It takes numbers, which are handed over in registers, and no spot.
 pub fn rounds(
     message: &[u8],
     wanted: Channels,

@@ -1,4 +1,4 @@
-// Where the quick loops stand between two chunks.
+// Where a walk's loops stand between two chunks.
 ghost use mathlib.Core.List.{List, map};
 ghost use mathlib.Core.Path.{_≡_};
 ghost use Prim.Native.Nat.{ℕ, _+_, _≤_};

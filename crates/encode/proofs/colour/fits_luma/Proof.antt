@@ -1,4 +1,4 @@
--- `encode::colour::fits_luma` meets its contract: it tests the three ranges one after another, the last one first.
+-- `encode::colour::fits_luma` meets its contract: it tests the three ranges from the last to the first.
 -- Assumes nothing.
 use mathlib.Core.Bool.{Bool}
 use mathlib.Core.Path.{_≡_, _∙_, ap}
