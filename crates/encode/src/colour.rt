@@ -79,8 +79,8 @@ fn diff_holds(difference: u8) -> bool
     -2 <= d && d <= 1
 }
 
-// LUMA holds green -32..31 and the other two -8..7 against green. Blue's test is first, since it fails most often;
-// green's fails now and then, which a processor cannot foretell.
+// LUMA holds green -32..31 and the other two -8..7 against green. Of random pixels green's test holds for one in four,
+// the others' for one in sixteen; this order ran fastest.
 fn fits_luma(r: u8, g: u8, b: u8) -> bool
     ensures { λ fits. ⌜ fits ≡ fitsLuma r g b ⌝ }
 {

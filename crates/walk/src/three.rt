@@ -51,7 +51,7 @@ pub fn quick_three(
             if byte == 254 {
                 l = lanes::of_bytes(message[at + 1], message[at + 2], message[at + 3], 255);
                 keep_three(held, out, done, l);
-                // In another order than in the other arms: else LLVM gives them one end, and each chunk jumps there.
+                // In another order than in the other arms: so LLVM lets fewer of them share an end to jump to.
                 quota -= 1;
                 done += 1;
                 at += 4;
