@@ -80,6 +80,7 @@ words-short number figures =
     (either-fits (eqb number 9) _ _ (lit≤ tt)
     (either-fits (eqb number 10) _ _ (lit≤ tt)
     (either-fits (eqb number 11) _ _ (lit≤ tt)
+    (either-fits (eqb number 12) _ _ (lit≤ tt)
     (either-fits (eqb number 19) _ _ (lit≤ tt)
     (either-fits (eqb number 20) _ _ (lit≤ tt)
-    (either-fits (eqb number 21) _ _ (lit≤ tt) (lit≤ tt)))))))))))))))
+    (either-fits (eqb number 21) _ _ (lit≤ tt) (lit≤ tt))))))))))))))))

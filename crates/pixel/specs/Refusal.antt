@@ -1,4 +1,5 @@
--- Document 01's table of refusals and the three of document 02's Q-13: each one's number and figures, which determine it.
+-- Document 01's table of refusals, and those of document 02's Q-7 and Q-13: each one's number and figures, which
+-- determine it.
 use mathlib.Core.Path.{_≡_, refl, sym, _∙_, ap₂}
 use mathlib.Core.List.{List, [], _∷_}
 use mathlib.Core.Bool.{cond}
@@ -6,7 +7,7 @@ use Prim.Native.Nat.{ℕ}
 use lib.Dec.{eqb}
 use lib.ListN.{getD}
 use Rattle.pixel.specs.declared.error.Error.{Error}
-use Rattle.pixel.specs.declared.error.Error.the-variants.{UnexpectedBufferEnd, InvalidChannels, InvalidColorSpace, InvalidMagic, InvalidImageDimensions, InvalidImageLength, OutputBufferTooSmall, InvalidPadding, BadState, RunPastImage, BytesAfterMarker, InvalidHour, InvalidCellCount, TotalTooLarge}
+use Rattle.pixel.specs.declared.error.Error.the-variants.{UnexpectedBufferEnd, InvalidChannels, InvalidColorSpace, InvalidMagic, InvalidImageDimensions, InvalidImageLength, OutputBufferTooSmall, InvalidPadding, BadState, RunPastImage, BytesAfterMarker, OtherMessage, InvalidHour, InvalidCellCount, TotalTooLarge}
 
 -- the number that the documents give it
 abbrev pub numberOf : Error → ℕ
@@ -21,6 +22,7 @@ numberOf InvalidPadding = 8
 numberOf BadState = 9
 numberOf RunPastImage = 10
 numberOf BytesAfterMarker = 11
+numberOf (OtherMessage number) = 12
 numberOf (InvalidHour hour) = 19
 numberOf (InvalidCellCount pixels cells) = 20
 numberOf (TotalTooLarge cell) = 21
@@ -38,6 +40,7 @@ figuresOf InvalidPadding = 0 ∷ 0 ∷ 0 ∷ 0 ∷ []
 figuresOf BadState = 0 ∷ 0 ∷ 0 ∷ 0 ∷ []
 figuresOf RunPastImage = 0 ∷ 0 ∷ 0 ∷ 0 ∷ []
 figuresOf BytesAfterMarker = 0 ∷ 0 ∷ 0 ∷ 0 ∷ []
+figuresOf (OtherMessage number) = number ∷ 0 ∷ 0 ∷ 0 ∷ []
 figuresOf (InvalidHour hour) = hour ∷ 0 ∷ 0 ∷ 0 ∷ []
 figuresOf (InvalidCellCount pixels cells) = pixels ∷ cells ∷ 0 ∷ 0 ∷ []
 figuresOf (TotalTooLarge cell) = cell ∷ 0 ∷ 0 ∷ 0 ∷ []
@@ -55,9 +58,10 @@ refusalOf n f =
     (cond (eqb n 9) BadState
     (cond (eqb n 10) RunPastImage
     (cond (eqb n 11) BytesAfterMarker
+    (cond (eqb n 12) (OtherMessage (getD f 0 0))
     (cond (eqb n 19) (InvalidHour (getD f 0 0))
     (cond (eqb n 20) (InvalidCellCount (getD f 0 0) (getD f 1 0))
-    (cond (eqb n 21) (TotalTooLarge (getD f 0 0)) UnexpectedBufferEnd))))))))))))
+    (cond (eqb n 21) (TotalTooLarge (getD f 0 0)) UnexpectedBufferEnd)))))))))))))
 
 -- a refusal is the one that its number and figures name
 named : (e : Error) → refusalOf (numberOf e) (figuresOf e) ≡ e
@@ -72,6 +76,7 @@ named InvalidPadding = refl
 named BadState = refl
 named RunPastImage = refl
 named BytesAfterMarker = refl
+named (OtherMessage number) = refl
 named (InvalidHour hour) = refl
 named (InvalidCellCount pixels cells) = refl
 named (TotalTooLarge cell) = refl

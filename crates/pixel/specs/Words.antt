@@ -1,4 +1,4 @@
--- A refusal in words: the Rust's own for the eight that it has, and in the same style for 9, 10, 11, 19, 20, 21 and for a
+-- A refusal in words: the Rust's own for the eight that it has, and in the same style for 9 to 12, 19 to 21 and for a
 -- number that is no refusal.
 use mathlib.Core.Bool.{cond}
 use mathlib.Core.List.{List, [], _∷_}
@@ -33,10 +33,11 @@ sentence number a b c =
     (cond (eqb number 9) (say "invalid decoder state or record" ∷ [])
     (cond (eqb number 10) (say "invalid run (longer than the pixels left)" ∷ [])
     (cond (eqb number 11) (say "invalid length (bytes after the stream end marker)" ∷ [])
+    (cond (eqb number 12) (figure "record of another message: " a ∷ [])
     (cond (eqb number 19) (figure "invalid hour: " a ∷ say " (expected 0 to 743)" ∷ [])
     (cond (eqb number 20) (figure "invalid number of cells: " a ∷ figure " pixels for " b ∷ say " cells" ∷ [])
     (cond (eqb number 21) (figure "total too large: cell " a ∷ say " would pass 18446744073709551615" ∷ [])
-    (figure "unknown refusal: " number ∷ []))))))))))))))
+    (figure "unknown refusal: " number ∷ [])))))))))))))))
 
 -- the words of a number and its figures
 abbrev pub wordsOf : ℕ → List ℕ → List ℕ

@@ -1,4 +1,4 @@
-// The refusals of document 01, and 19 to 21 of document 02's Q-13, each with its number and figures, and in words.
+// The refusals of document 01 and, of document 02, 12 of Q-7 and 19 to 21 of Q-13: each one's number, figures and words.
 ghost use mathlib.Core.Path.{_≡_};
 ghost use lib.ListN.{length};
 ghost use Rattle.text.specs.Text.{textOf, putOver};
@@ -49,6 +49,10 @@ pub enum Error {
     RunPastImage,
     // Something follows the marker (strict).
     BytesAfterMarker,
+    // A record of a message with another number than the one expected.
+    OtherMessage {
+        number: u64,
+    },
     // An hour above 743, a month's last.
     InvalidHour {
         hour: u64,
@@ -91,6 +95,7 @@ impl Error {
             Error::BadState => 9,
             Error::RunPastImage => 10,
             Error::BytesAfterMarker => 11,
+            Error::OtherMessage { number: _ } => 12,
             Error::InvalidHour { hour: _ } => 19,
             Error::InvalidCellCount {
                 pixels: _,
@@ -120,6 +125,7 @@ impl Error {
             Error::BadState => [0, 0, 0, 0],
             Error::RunPastImage => [0, 0, 0, 0],
             Error::BytesAfterMarker => [0, 0, 0, 0],
+            Error::OtherMessage { number } => [number, 0, 0, 0],
             Error::InvalidHour { hour } => [hour, 0, 0, 0],
             Error::InvalidCellCount { pixels, cells } => [pixels as u64, cells as u64, 0, 0],
             Error::TotalTooLarge { cell } => [cell as u64, 0, 0, 0],

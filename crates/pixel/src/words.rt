@@ -48,6 +48,9 @@ pub fn of(number: u64, a: u64, b: u64, c: u64) -> Text
     if number == 11 {
         return text.words(b"invalid length (bytes after the stream end marker)");
     }
+    if number == 12 {
+        return text.figure(b"record of another message: ", a);
+    }
     if number == 19 {
         return text.figure(b"invalid hour: ", a)
             .words(b" (expected 0 to 743)");

@@ -80,16 +80,17 @@ IsEncode picture width height colorspace out figures left =
 abbrev pub IsStrict : List ℕ → List ℕ → Type 0
 IsStrict message figures = figures ≡ strictFigures (strict message)
 
-abbrev pub IsStart : List ℕ → ℕ → List ℕ → List ℕ → List ℕ → Type 0
-IsStart message wanted part figures left =
-    (figures ≡ startedFigures (starting message wanted) part) × (left ≡ startedOver (starting message wanted) part)
+abbrev pub IsStart : List ℕ → ℕ → ℕ → List ℕ → List ℕ → List ℕ → Type 0
+IsStart message number wanted part figures left =
+    (figures ≡ startedFigures (starting message number wanted) part)
+    × (left ≡ startedOver (starting message number wanted) part)
 
--- a run from a record's bytes is lent two parts
-abbrev pub IsRun : List ℕ → ℕ → List ℕ → List ℕ → List ℕ → List ℕ → List ℕ → List ℕ → Type 0
-IsRun message steps bytes out next figures leftOut leftNext =
-    (figures ≡ hostFigures message steps out next (readRecord bytes))
-    × ((leftOut ≡ hostOut message steps out (readRecord bytes))
-    × (leftNext ≡ hostNext message steps out next (readRecord bytes)))
+-- a run from the bytes of a record of the message with this number is lent two parts
+abbrev pub IsRun : List ℕ → ℕ → List ℕ → List ℕ → ℕ → List ℕ → List ℕ → List ℕ → List ℕ → Type 0
+IsRun message number bytes out steps next figures leftOut leftNext =
+    (figures ≡ hostFigures message steps out next (readRecord number bytes))
+    × ((leftOut ≡ hostOut message steps out (readRecord number bytes))
+    × (leftNext ≡ hostNext message steps out next (readRecord number bytes)))
 
 -- counting is lent a frame's buffer and a table, its totals and its marks
 abbrev pub IsCount : List ℕ → ℕ → List ℕ → List ℕ → List ℕ → List ℕ → List ℕ → List ℕ → List ℕ → Type 0

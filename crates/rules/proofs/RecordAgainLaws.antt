@@ -1,19 +1,18 @@
--- Laws of a record that is accepted: it is written again as the same bytes, its state is well formed, and it has at
--- most 290 bytes.
+-- Laws of a record that is accepted: it is written again as the same bytes, its state is well formed and has the number
+-- expected, and it has at most 300 bytes.
 -- Assumes nothing.
-use mathlib.Core.Path.{_≡_, refl, sym, _∙_, ap}
+use mathlib.Core.Path.{_≡_, refl, sym, _∙_, ap, ap₂}
 use mathlib.Core.Bool.{Bool, true, false, cond}
-use mathlib.Core.List.{List, _++_}
-use Prim.Native.Nat.{ℕ, zero, suc, _+_, _≤_}
+use mathlib.Core.List.{List, [], _∷_, _++_, append-assoc, append-nil}
+use Prim.Native.Nat.{ℕ, zero, suc, _+_, _*_, _≤_}
 use native.Mathlib.Omega.{arith}
 use borrow.Author.Tests.{eqb-true, ltb-false}
 use lib.Dec.{T, ltb, eqb}
-use lib.ListN.{length, drop, length-drop, take-append-drop}
+use lib.ListN.{length, take, drop, length-take, take-append-drop}
 use lib.Seq.{getD-drop}
 use Rattle.pixel.specs.declared.error.Error.{Error}
 use Rattle.pixel.specs.declared.types.ChannelsRead.{ChannelsRead}
 use Rattle.pixel.specs.declared.types.ChannelsRead.the-variants as channels-read
-use Rattle.pixel.specs.declared.types.Channels.the-variants.{Rgba}
 use Rattle.pixel.specs.Bytes.{AllBytes, pixelFrom, pixelsFrom}
 use Rattle.pixel.specs.Types.{channelsFrom}
 use Rattle.number.specs.declared.NumberRead.{NumberRead}
@@ -26,28 +25,41 @@ use Rattle.header.specs.Header.{headerBytes, headerOf}
 use Rattle.number.proofs.Laws.{read-written-back}
 use Rattle.header.proofs.Laws.{channels-number, header-written-back}
 use Rattle.rules.specs.Step.{State, wellFormed, Started, started, notStarted}
-use Rattle.rules.specs.Record.{pixelsBytes, recordBytes, afterNumber, acceptState, readSlots, readPositions, readWanted, readRecord}
+use Rattle.rules.specs.Record.{pixelsBytes, recordBytes, afterNumber, acceptNumber, acceptState, readSlots, readPositions, readWanted, readRecord}
 use Rattle.rules.proofs.RecordLaws.{refused-is-no-start, sized}
-use Rattle.rules.proofs.PictureLaws.{written, every-byte, pixels-written}
+use Rattle.rules.proofs.PictureLaws.{every-byte}
 
 -- the bytes after some bytes are bytes
 dropped-bytes : (n : ℕ) (bytes : List ℕ) → AllBytes bytes → AllBytes (drop n bytes)
 dropped-bytes n bytes are i h = rw (getD-drop n bytes i 0) (every-byte bytes are (n + i))
 
--- pixels of four channels are written whole
-pixels-all : (n : ℕ) (bytes : List ℕ) → pixelsBytes (pixelsFrom n 4 bytes) ≡ written 4 (pixelsFrom n 4 bytes)
-unfolding pixelsFrom pixelFrom pixelsBytes written
-pixels-all zero bytes = refl
-pixels-all (suc n) bytes = ap (λ l. pixelFrom 4 bytes .rgba ++ l) (pixels-all n (drop 4 bytes))
+-- pixels of four bytes each are written back as those bytes, whatever follows
+pixels-back : (n : ℕ) (front rest : List ℕ) → length front ≡ n * 4 → pixelsBytes (pixelsFrom n 4 (front ++ rest)) ≡ front
+unfolding pixelsFrom pixelFrom pixelsBytes
+pixels-back zero [] rest size = refl
+pixels-back zero (x ∷ xs) rest size = absurd (omega (arith, size))
+pixels-back (suc n) [] rest size = absurd (omega (arith, size))
+pixels-back (suc n) (a ∷ []) rest size = absurd (omega (arith, size))
+pixels-back (suc n) (a ∷ b ∷ []) rest size = absurd (omega (arith, size))
+pixels-back (suc n) (a ∷ b ∷ c ∷ []) rest size = absurd (omega (arith, size))
+pixels-back (suc n) (a ∷ b ∷ c ∷ d ∷ xs) rest size =
+    ap {B = List ℕ} (λ l. a ∷ b ∷ c ∷ d ∷ l) (pixels-back n xs rest (omega (arith, size)))
 
--- the current pixel and the slots are written back as their 260 bytes
+-- the current pixel and the slots are written back as the first 260 bytes
 slots-back :
-    (bytes : List ℕ) → length bytes ≡ 260
-    → pixelFrom 4 bytes .rgba ++ pixelsBytes (pixelsFrom 64 4 (drop 4 bytes)) ≡ bytes
+    (bytes : List ℕ) → 260 ≤ length bytes
+    → pixelFrom 4 bytes .rgba ++ pixelsBytes (pixelsFrom 64 4 (drop 4 bytes)) ≡ take 260 bytes
 unfolding pixelsFrom pixelsBytes
-slots-back bytes size = pixels-all 65 bytes ∙ pixels-written Rgba 65 bytes size
+slots-back bytes long =
+    let size : length (take 260 bytes) ≡ 65 * 4 = simp length-take (omega arith) in
+    rw (take-append-drop 260 bytes) at (pixels-back 65 (take 260 bytes) (drop 260 bytes) size)
 
-module _ (s : State) where
+-- what nothing follows is all
+all-of : (front rest bytes : List ℕ) → front ++ rest ≡ bytes → length rest ≡ 0 → front ≡ bytes
+all-of front [] bytes is none = sym (append-nil front) ∙ is
+all-of front (x ∷ xs) bytes is none = absurd (omega (arith, none))
+
+module _ (expected : ℕ) (s : State) where
   -- a test that passed, where failing is a refusal
   passed : (b : Bool) (r : Started) (e : Error) → cond b r (notStarted e) ≡ started s → (b ≡ true) × (r ≡ started s)
   passed true r e p = (refl, p)
@@ -58,43 +70,29 @@ module _ (s : State) where
   failed true r e p = absurd (refused-is-no-start p)
   failed false r e p = (refl, p)
 
-  -- an accepted record ends with its last slot, and its state, which is well formed, is the one that was read
-  end-accepted : (made : State) (left : ℕ) → acceptState made left ≡ started s → (left ≡ 0) × (made ≡ s) × T (wellFormed made)
-  unfolding acceptState
+  -- an accepted record ends with its number, which is the one expected, and its state, which is well formed, is the one
+  -- that was read
+  end-accepted :
+      (made : State) (left : ℕ) → acceptState expected made left ≡ started s
+      → (left ≡ 0) × (made ≡ s) × T (wellFormed made) × (made .number ≡ expected)
+  unfolding acceptState acceptNumber
   end-accepted made left p =
       let well = passed (wellFormed made) _ _ p in
       let q = passed (eqb left 0) _ _ (well .1) in
-      (eqb-true _ _ (q .0), cc (q .1), rw (well .0) tt)
+      let r = passed (eqb (made .number) expected) _ _ (q .1) in
+      (eqb-true _ _ (q .0), cc (r .1), rw (well .0) tt, eqb-true _ _ (r .0))
 
-  -- what was read so far, written, and the bytes that follow are the record; its state is well formed, and it has at
-  -- most 290 bytes
+  -- what was read so far, written, and the bytes that follow are the record; its state is well formed and has the
+  -- number expected, and it has at most 300 bytes
   record Again (bytes : List ℕ) : Type 0 where
     same : recordBytes s ≡ bytes
     well : T (wellFormed s)
-    short : length (recordBytes s) ≤ 290
+    number-is : s .number ≡ expected
+    short : length (recordBytes s) ≤ 300
 
   -- the same of bytes that are equal
   again-by : (bytes others : List ℕ) → bytes ≡ others → Again bytes → Again others
   again-by bytes others is a = rw (← is) a
-
-  -- after the positions: what is left is the current pixel and the slots
-  slots-written-back :
-      (header : Header) (wanted at pixel : ℕ) (bytes : List ℕ) → readSlots header wanted at pixel bytes ≡ started s
-      → Again (headerBytes header ++ (sevenBits wanted ++ (sevenBits at ++ (sevenBits pixel ++ bytes))))
-  unfolding readSlots recordBytes
-  slots-written-back header wanted at pixel bytes p =
-      let q = failed (ltb (length bytes) 260) _ _ p in
-      let end = end-accepted _ _ (q .1) in
-      let long = ltb-false (length bytes) 260 (q .0) in
-      let size : length bytes ≡ 260 = omega (arith, simp length-drop at (end .0)) in
-      let well = rw (end .1) at (end .2) in
-      let pixels : s .place .current .rgba ++ pixelsBytes (s .place .slots) ≡ bytes =
-      ap (λ (t : State). t .place .current .rgba ++ pixelsBytes (t .place .slots)) (sym (end .1)) ∙ slots-back bytes size in
-      record {
-        same = ap recordBytes (sym (end .1)) ∙ rw (slots-back bytes size);
-        well = well;
-        short = sized s well (ap length pixels ∙ size) .1;
-      }
 
   -- a number that is read is written back before what follows it
   number-back :
@@ -108,22 +106,50 @@ module _ (s : State) where
       rw (read-written-back bytes value used are is) (take-append-drop used bytes) in
       (value, drop used bytes, dropped-bytes used bytes are, back, p)
 
+  -- after the positions: the current pixel, the slots and the number
+  slots-written-back :
+      (header : Header) (wanted at pixel : ℕ) (bytes : List ℕ) → AllBytes bytes
+      → readSlots expected header wanted at pixel bytes ≡ started s
+      → Again (headerBytes header ++ (sevenBits wanted ++ (sevenBits at ++ (sevenBits pixel ++ bytes))))
+  unfolding readSlots recordBytes
+  slots-written-back header wanted at pixel bytes are p =
+      let q = failed (ltb (length bytes) 260) _ _ p in
+      let long = ltb-false (length bytes) 260 (q .0) in
+      let (number, rest, rest-are, back, r) =
+      number-back (drop 260 bytes) (dropped-bytes 260 bytes are) (readNumber (drop 260 bytes)) refl _ (q .1) in
+      let end = end-accepted _ (length rest) r in
+      let pixels = slots-back bytes long in
+      let whole : pixelFrom 4 bytes .rgba ++ (pixelsBytes (pixelsFrom 64 4 (drop 4 bytes)) ++ sevenBits number) ≡ bytes =
+      sym (append-assoc (pixelFrom 4 bytes .rgba) _ (sevenBits number))
+      ∙ ap₂ _++_ pixels (all-of (sevenBits number) rest (drop 260 bytes) back (end .0))
+      ∙ take-append-drop 260 bytes in
+      let well = rw (end .1) at (end .2) in
+      let size : length (s .place .current .rgba ++ pixelsBytes (s .place .slots)) ≡ 260 =
+      ap (λ (t : State). length (t .place .current .rgba ++ pixelsBytes (t .place .slots))) (sym (end .1))
+      ∙ ap length pixels ∙ simp length-take (omega arith) in
+      record {
+        same = ap recordBytes (sym (end .1)) ∙ rw whole;
+        well = well;
+        number-is = ap (λ (t : State). t .number) (sym (end .1)) ∙ end .3;
+        short = sized s well size .1;
+      }
+
   -- after wanted: the positions are written back
   positions-written-back :
       (header : Header) (wanted : ℕ) (bytes : List ℕ) → AllBytes bytes
-      → (read : ChannelsRead) → channelsFrom wanted ≡ read → readPositions header read bytes ≡ started s
+      → (read : ChannelsRead) → channelsFrom wanted ≡ read → readPositions expected header read bytes ≡ started s
       → Again (headerBytes header ++ (sevenBits wanted ++ bytes))
   unfolding readPositions
   positions-written-back header wanted bytes are (channels-read.Refused e) is p = absurd (refused-is-no-start p)
   positions-written-back header wanted bytes are (channels-read.Ok channels) is p =
       let (at, rest, rest-are, at-back, q) = number-back bytes are (readNumber bytes) refl _ p in
       let (pixel, slots, slots-are, pixel-back, r) = number-back rest rest-are (readNumber rest) refl _ q in
-      rw (← at-back, ← pixel-back, ← channels-number wanted channels is) (slots-written-back header _ at pixel slots r)
+      rw (← at-back, ← pixel-back, ← channels-number wanted channels is) (slots-written-back header _ at pixel slots slots-are r)
 
   -- after the header: wanted is written back
   wanted-written-back :
       (bytes : List ℕ) → AllBytes bytes → (read : HeaderRead) → headerOf bytes ≡ read
-      → readWanted read (drop 14 bytes) ≡ started s → Again bytes
+      → readWanted expected read (drop 14 bytes) ≡ started s → Again bytes
   unfolding readWanted
   wanted-written-back bytes are (header-read.Refused e) is p = absurd (refused-is-no-start p)
   wanted-written-back bytes are (header-read.Ok header) is p =
@@ -134,10 +160,10 @@ module _ (s : State) where
       (positions-written-back header wanted rest rest-are (channelsFrom wanted) refl q)
 
 -- a record that is accepted
-module _ (bytes : List ℕ) (are : AllBytes bytes) (s : State) (p : readRecord bytes ≡ started s) where
-  read-so : Again s bytes
+module _ (expected : ℕ) (bytes : List ℕ) (are : AllBytes bytes) (s : State) (p : readRecord expected bytes ≡ started s) where
+  read-so : Again expected s bytes
   unfolding readRecord
-  read-so = wanted-written-back s bytes are (headerOf bytes) refl p
+  read-so = wanted-written-back expected s bytes are (headerOf bytes) refl p
 
   -- is written again as the same bytes
   pub record-written-back : recordBytes s ≡ bytes
@@ -147,6 +173,10 @@ module _ (bytes : List ℕ) (are : AllBytes bytes) (s : State) (p : readRecord b
   pub record-well-formed : T (wellFormed s)
   record-well-formed = read-so .well
 
-  -- and at most 290 bytes
-  pub record-short : length bytes ≤ 290
+  -- of the number expected
+  pub record-number : s .number ≡ expected
+  record-number = read-so .number-is
+
+  -- and at most 300 bytes
+  pub record-short : length bytes ≤ 300
   record-short = rw record-written-back at (read-so .short)

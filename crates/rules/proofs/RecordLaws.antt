@@ -1,4 +1,5 @@
--- Laws of the record: reading what was written gives the same state, and a record is 277 to 290 bytes.
+-- Laws of the record: reading what was written gives the same state, or 12 under another number, and a record is 278 to
+-- 300 bytes.
 -- Assumes nothing.
 use mathlib.Core.Path.{_≡_, refl, sym, _∙_, ap, ap₂}
 use mathlib.Core.Bool.{Bool, true, false, _||_}
@@ -16,13 +17,13 @@ use Rattle.pixel.specs.declared.types.Channels.{Channels}
 use Rattle.pixel.specs.declared.types.Channels.the-variants.{Rgb, Rgba}
 use Rattle.pixel.specs.Colour.{clearPixel}
 use Rattle.pixel.specs.Types.{channelsNumber, channelsFrom}
-use Rattle.number.specs.Seven.{sevenBits}
+use Rattle.number.specs.Seven.{sevenBits, readNumber}
 use Rattle.header.specs.Header.{headerBytes, pixelCount}
 use Rattle.number.proofs.Laws.{read-written, rest-after-written, length-at-least-one, length-at-most-ten, length-one, length-at-most-five}
 use Rattle.header.proofs.Laws.{is-true, both, pixels-small, header-read-back, header-length}
 use Rattle.pixel.specs.Bytes.{pixelFrom, pixelsFrom}
-use Rattle.rules.specs.Step.{State, Typed, headerPasses, wantedPasses, atPasses, pixelPasses, leftPasses, alphaPasses, wellFormed, started, notStarted}
-use Rattle.rules.specs.Record.{pixelsBytes, recordBytes, afterNumber, acceptState, readSlots, readPositions, readWanted, readRecord}
+use Rattle.rules.specs.Step.{State, Typed, headerPasses, wantedPasses, atPasses, pixelPasses, leftPasses, alphaPasses, wellFormed, Started, started, notStarted}
+use Rattle.rules.specs.Record.{pixelsBytes, recordBytes, afterNumber, acceptNumber, acceptState, readSlots, readPositions, readWanted, readRecord}
 
 -- a list of four is read back as a pixel, whatever follows
 four-read : (bytes rest : List ℕ) → length bytes ≡ 4 → pixelFrom 4 (bytes ++ rest) ≡ record { rgba = bytes }
@@ -134,14 +135,21 @@ module _ (s : State) (well : T (wellFormed s)) where
   wanted-small : s .wanted < 128
   wanted-small = omega (arith, wanted-few s well)
 
-  -- a record with 260 bytes of pixels is 277 to 290 bytes
+  -- a record with 260 bytes of pixels is 278 to 300 bytes
   pub sized :
       length (s .place .current .rgba ++ pixelsBytes (s .place .slots)) ≡ 260
-      → (277 ≤ length (recordBytes s)) × (length (recordBytes s) ≤ 290)
+      → (278 ≤ length (recordBytes s)) × (length (recordBytes s) ≤ 300)
   unfolding recordBytes
   sized whole =
       simp (length-append, header-length (s .header))
-      (omega (arith, simp length-append at whole, length-one (s .wanted) wanted-small, length-at-least-one (s .place .at), length-at-most-ten (s .place .at), length-at-least-one (s .place .pixel), length-at-most-five (s .place .pixel) pixel-small))
+      (omega (arith, simp length-append at whole, length-one (s .wanted) wanted-small, length-at-least-one (s .place .at), length-at-most-ten (s .place .at), length-at-least-one (s .place .pixel), length-at-most-five (s .place .pixel) pixel-small, length-at-least-one (s .number), length-at-most-ten (s .number)))
+
+-- a number at the end is read, and nothing is left
+number-ends :
+    (n : ℕ) → n < 2 ^ 64 → (next : ℕ → List ℕ → Started) → afterNumber (sevenBits n) (readNumber (sevenBits n)) next ≡ next n []
+unfolding afterNumber
+number-ends n fits next =
+    rw (← append-nil (sevenBits n)) (rw (read-written n [] fits, rest-after-written n))
 
 module _ (s : State) (typed : Typed s) (well : T (wellFormed s)) where
   -- each slot has four bytes
@@ -154,45 +162,57 @@ module _ (s : State) (typed : Typed s) (well : T (wellFormed s)) where
       simp length-append
       (omega (arith, typed .current-is, typed .slots-are, pixels-length (s .place .slots) fours))
 
-  -- the slots are read back
-  slots-back : pixelsFrom 64 4 (drop 4 (s .place .current .rgba ++ pixelsBytes (s .place .slots))) ≡ s .place .slots
-  slots-back =
-      rw (drop-at (s .place .current .rgba) (pixelsBytes (s .place .slots)) 4 (typed .current-is), ← typed .slots-are, ← append-nil (pixelsBytes (s .place .slots)))
-      (pixels-read (s .place .slots) [] fours)
+  -- the slots are read back, whatever follows
+  slots-back : (rest : List ℕ) → pixelsFrom 64 4 (drop 4 (s .place .current .rgba ++ (pixelsBytes (s .place .slots) ++ rest))) ≡ s .place .slots
+  slots-back rest =
+      rw (drop-at (s .place .current .rgba) (pixelsBytes (s .place .slots) ++ rest) 4 (typed .current-is), ← typed .slots-are)
+      (pixels-read (s .place .slots) rest fours)
 
-  -- nothing follows the slots
-  none-left : length (drop 260 (s .place .current .rgba ++ pixelsBytes (s .place .slots))) ≡ 0
-  none-left = simp length-drop (omega (arith, slots-length))
+  -- what follows them
+  rest-back : (rest : List ℕ) → drop 260 (s .place .current .rgba ++ (pixelsBytes (s .place .slots) ++ rest)) ≡ rest
+  rest-back rest =
+      ap (drop 260) (sym (append-assoc (s .place .current .rgba) (pixelsBytes (s .place .slots)) rest))
+      ∙ drop-at (s .place .current .rgba ++ pixelsBytes (s .place .slots)) rest 260 slots-length
 
   -- the pixels left are those from the pixel position on
   left-back : pixelCount (s .header) - s .place .pixel ≡ s .left
   left-back = omega (arith, adds-up s well)
 
-  -- the current pixel and the slots are read back
+  -- the current pixel, the slots and the number are read back
   slots-read :
-      readSlots (s .header) (s .wanted) (s .place .at) (s .place .pixel)
-      (s .place .current .rgba ++ pixelsBytes (s .place .slots)) ≡ started s
+      (expected : ℕ)
+      → readSlots expected (s .header) (s .wanted) (s .place .at) (s .place .pixel)
+      (s .place .current .rgba ++ (pixelsBytes (s .place .slots) ++ sevenBits (s .number))) ≡ acceptNumber expected s
   unfolding readSlots acceptState
-  slots-read =
-      rw (le-ltb (length (s .place .current .rgba ++ pixelsBytes (s .place .slots))) 260 (omega (arith, slots-length)), four-read (s .place .current .rgba) (pixelsBytes (s .place .slots)) (typed .current-is), slots-back, none-left, left-back, is-true (wellFormed s) well)
+  slots-read expected =
+      let bytes = s .place .current .rgba ++ (pixelsBytes (s .place .slots) ++ sevenBits (s .number)) in
+      let long : 260 ≤ length bytes = simp length-append (omega (arith, simp length-append at slots-length)) in
+      rw (le-ltb (length bytes) 260 long, four-read (s .place .current .rgba) (pixelsBytes (s .place .slots) ++ sevenBits (s .number)) (typed .current-is), slots-back (sevenBits (s .number)), rest-back (sevenBits (s .number)))
+      (number-ends (s .number) (typed .number-fits) _ ∙ rw (left-back, is-true (wellFormed s) well))
 
   -- the positions after wanted are read back
-  positions-read : (c : Channels) → channelsNumber c ≡ s .wanted →
-      readPositions (s .header) (channels-read.Ok c)
-      (sevenBits (s .place .at) ++ (sevenBits (s .place .pixel) ++ (s .place .current .rgba ++ pixelsBytes (s .place .slots)))) ≡ started s
+  positions-read : (expected : ℕ) (c : Channels) → channelsNumber c ≡ s .wanted →
+      readPositions expected (s .header) (channels-read.Ok c)
+      (sevenBits (s .place .at) ++ (sevenBits (s .place .pixel) ++ (s .place .current .rgba ++ (pixelsBytes (s .place .slots) ++ sevenBits (s .number)))))
+      ≡ acceptNumber expected s
   unfolding readPositions afterNumber
-  positions-read c same =
+  positions-read expected c same =
       rw (read-written (s .place .at) _ (typed .at-fits), rest-after-written (s .place .at), read-written (s .place .pixel) _ (omega (arith, pixel-small s well)), rest-after-written (s .place .pixel), same)
-      slots-read
+      (slots-read expected)
 
-  -- reading a written record gives the same state
-  pub record-read-back : readRecord (recordBytes s) ≡ started s
+  -- a written record is read as its state where its number is the one expected; else it is 12
+  pub record-read : (expected : ℕ) → readRecord expected (recordBytes s) ≡ acceptNumber expected s
   unfolding readRecord recordBytes readWanted afterNumber
-  record-read-back =
+  record-read expected =
       let count = wanted-channels (s .wanted) (formed s well .wanted-passes) in
       rw (header-read-back (s .header) _ (typed .width-fits) (typed .height-fits) (formed s well .header-passes), drop-at (headerBytes (s .header)) _ 14 (header-length (s .header)), read-written (s .wanted) _ (omega (arith, wanted-small s well)), rest-after-written (s .wanted), count .1)
-      (positions-read (count .0) (count .2))
+      (positions-read expected (count .0) (count .2))
 
-  -- a record is 277 to 290 bytes
-  pub record-length : (277 ≤ length (recordBytes s)) × (length (recordBytes s) ≤ 290)
+  -- reading a written record under its number gives the same state
+  pub record-read-back : readRecord (s .number) (recordBytes s) ≡ started s
+  unfolding acceptNumber
+  record-read-back = record-read (s .number) ∙ rw (eq-eqb (s .number) (s .number) refl)
+
+  -- a record is 278 to 300 bytes
+  pub record-length : (278 ≤ length (recordBytes s)) × (length (recordBytes s) ≤ 300)
   record-length = sized s well slots-length

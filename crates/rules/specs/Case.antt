@@ -23,7 +23,7 @@ use Rattle.rules.specs.Document.{documentReading, namesFilled, filledAft
 use Rattle.pixel.specs.Bytes.{pixelFrom, pixelsFrom}
 use Rattle.rules.specs.Encode.{EncodeAnswer, encoded, notEncoded, Encoding, fitsDiff, fitsLuma, diffChunk, lumaChunk, colourChunk, startPen, runEnded, slotHolds, differingChunk, pixelChunks, penAfter, chunksFrom, chunkBytes, chunksBytes, chunksOf, streamOf, afterLength, afterDimensions, pictureHeader, encodingInto, afterSpace, afterPictureHeader, encoding}
 use Rattle.rules.specs.Step.{State, wellFormed, startState, Started, started, notStarted, startWanted, startHeader, starting, Step, stepBy, step, steppedOver, Ran, going, ended, running}
-use Rattle.rules.specs.Record.{Recorded, recorded, notRecorded, pixelsBytes, recordBytes, recording, recordedOver, afterNumber, acceptState, readSlots, readPositions, readWanted, readRecord}
+use Rattle.rules.specs.Record.{Recorded, recorded, notRecorded, pixelsBytes, recordBytes, recording, recordedOver, afterNumber, acceptNumber, acceptState, readSlots, readPositions, readWanted, readRecord}
 use Rattle.rules.specs.Strict.{StrictAnswer, strictClosed, strictClosing, strictCounted, strictBy, strictMove, strictFrom, strictHeader, strict, runsFitIn, runsFit, chunkCount}
 use Rattle.rules.specs.Figures.{refusalFigures, headerFigures, answerFigures, encodeFigures, strictFigures}
 
@@ -49,8 +49,9 @@ pub data Case : Type 0 where
   traces : List ℕ → Bool → ℕ → List ℕ → Case
   -- a message: whether each INDEX names a filled slot
   fills : List ℕ → Bool → Case
-  -- a message, wanted: a start's answer; what starts has the message's header and the start place
-  starts : List ℕ → ℕ → List ℕ → Case
+  -- a message, its number, wanted: a start's answer; what starts has the message's header and number, and the start
+  -- place
+  starts : List ℕ → ℕ → ℕ → List ℕ → Case
   -- a state, a message, room: the step's answer, the output at exit
   stepsOn : State → List ℕ → ℕ → List ℕ → List ℕ → Case
   -- a number: its bytes in a record, which are read back
@@ -59,8 +60,8 @@ pub data Case : Type 0 where
   countsBack : List ℕ → List ℕ → Case
   -- a state, room: the answer for its record, the output at exit
   records : State → ℕ → List ℕ → List ℕ → Case
-  -- bytes: the answer for the record that they are; what is read back has the same record
-  readsBack : List ℕ → List ℕ → Case
+  -- the number expected, bytes: the answer for the record that they are; what is read back has the same record
+  readsBack : ℕ → List ℕ → List ℕ → Case
   -- a message, wanted, output size, steps before a checkpoint, the byte found from there on: the output at the end
   takesUp : List ℕ → ℕ → ℕ → ℕ → ℕ → List ℕ → Case
   -- two lists that the comparison of these tests must tell apart
@@ -151,8 +152,8 @@ abbrev pub leaves : ℕ → ℕ → Channels → ℕ → List ℕ → List ℕ �
 leaves width height channels wanted body =
     leavesAfter (headed width height channels body) wanted (width * height * wanted)
 
--- a made-up state with empty slots: header, wanted, byte position, pixel position, pixels left, the alpha of a black
--- current pixel
+-- a made-up state of message 7 with empty slots: header, wanted, byte position, pixel position, pixels left, the alpha
+-- of a black current pixel
 abbrev pub stateLeft : ℕ → ℕ → Channels → ℕ → ℕ → ℕ → ℕ → ℕ → State
 stateLeft width height channels wanted at pixel left alpha =
     record {
@@ -160,6 +161,7 @@ stateLeft width height channels wanted at pixel left alpha =
       wanted = wanted;
       place = record { at = at; pixel = pixel; current = pixelOf 0 0 0 alpha; slots = replicate 64 clearPixel };
       left = left;
+      number = 7;
     }
 
 -- the same with as many pixels left as the picture has from its pixel position on
@@ -167,20 +169,19 @@ abbrev pub stateAt : ℕ → ℕ → Channels → ℕ → ℕ → ℕ → ℕ �
 stateAt width height channels wanted at pixel alpha =
     stateLeft width height channels wanted at pixel (width * height - pixel) alpha
 
--- the state at the start of a picture
-abbrev pub stateFrom : ℕ → ℕ → Channels → ℕ → State
-stateFrom width height channels wanted =
-    startState (headerWith width height channels) wanted
+-- the state at the start of a picture: width, height, channels, the message's number, wanted
+abbrev pub stateFrom : ℕ → ℕ → Channels → ℕ → ℕ → State
+stateFrom width height channels number wanted = startState (headerWith width height channels) number wanted
 
 -- the state that some steps lead to
 stateOf : Ran → State
 stateOf (going s out) = s
 stateOf (ended verdict s out) = s
 
--- the state after n steps from a picture's start
+-- the state after n steps from the start of message 7's picture
 pub stateAfter : ℕ → ℕ → ℕ → Channels → ℕ → List ℕ → State
 stateAfter steps width height channels wanted chunks =
-    let s = stateFrom width height channels wanted in
+    let s = stateFrom width height channels 7 wanted in
     stateOf (running (message width height channels chunks) steps s (held (width * height * wanted)))
 
 -- what a worker leaves that ends
@@ -197,10 +198,10 @@ resumed m limit out found (started s) =
 
 -- a first worker stops after its steps and leaves its record
 checkpointed : List ℕ → ℕ → ℕ → Ran → List ℕ
-checkpointed m limit found (going s out) = resumed m limit out found (readRecord (recordBytes s))
+checkpointed m limit found (going s out) = resumed m limit out found (readRecord 7 (recordBytes s))
 checkpointed m limit found (ended verdict s out) = []
 
--- a first worker starts on an output of zeros
+-- a first worker starts on message 7 with an output of zeros
 begun : List ℕ → ℕ → ℕ → ℕ → ℕ → Started → List ℕ
 begun m steps limit size found (notStarted e) = []
 begun m steps limit size found (started s) = checkpointed m limit found (running m steps s (replicate size 0))
@@ -259,8 +260,8 @@ unfolding sameTest stateOf stateAfter afterRun resumed checkpointed begun encode
     decoderReadsRgba fitsDiff fitsLuma diffChunk lumaChunk colourChunk startPen runEnded slotHolds differingChunk
     pixelChunks penAfter chunksFrom chunkBytes chunksBytes pixelFrom pixelsFrom chunksOf streamOf encodingInto
     afterLength afterDimensions pictureHeader afterSpace afterPictureHeader encoding wellFormed startWanted startHeader starting stepBy step running
-    pixelsBytes recordBytes recording recordedOver restOf afterNumber acceptState readSlots readPositions readWanted
-    readRecord strictClosed strictClosing strictCounted strictBy strictMove strictFrom strictHeader strict runsFitIn
+    pixelsBytes recordBytes recording recordedOver restOf afterNumber acceptNumber acceptState readSlots readPositions
+    readWanted readRecord strictClosed strictClosing strictCounted strictBy strictMove strictFrom strictHeader strict runsFitIn
     namesFilled filledAfter chunkDue indexesFilled visitsOn visits headerTrace trace filledIn
 holds (streams width height channels colorspace picture stream) =
     let r = encoding picture width height colorspace 1000000 in
@@ -281,8 +282,8 @@ holds (traces m fit count positions) =
     sameTest (runsFit m) fit
     && (eqb (chunkCount m) count && sameBytes (map (λ (v : Visit). v .place .at) (trace m)) positions)
 holds (fills m each) = sameTest (indexesFilled m) each
-holds (starts m wanted figures) =
-    startIs figures (take 14 m ++ drop 14 (recordBytes (stateFrom 1 1 Rgb wanted))) (starting m wanted)
+holds (starts m number wanted figures) =
+    startIs figures (take 14 m ++ drop 14 (recordBytes (stateFrom 1 1 Rgb number wanted))) (starting m number wanted)
 holds (stepsOn s m room figures out) =
     sameBytes (stepFigures (step s m room)) figures && sameBytes (outputAfter s (held room) (step s m room)) out
 holds (counts n bytes) =
@@ -290,9 +291,9 @@ holds (counts n bytes) =
 holds (countsBack bytes figures) = sameBytes (numberFigures (readNumber bytes)) figures
 holds (records s room figures out) =
     sameBytes (recordFigures (recording s room)) figures && sameBytes (recordedOver s (held room)) out
-holds (readsBack bytes figures) = startIs figures bytes (readRecord bytes)
+holds (readsBack expected bytes figures) = startIs figures bytes (readRecord expected bytes)
 holds (takesUp m wanted size steps found out) =
-    sameBytes (begun m steps (size + 1) size found (starting m wanted)) out
+    sameBytes (begun m steps (size + 1) size found (starting m 7 wanted)) out
 holds (differ xs ys) = not (sameBytes xs ys)
 
 -- the test holds of each case of a list

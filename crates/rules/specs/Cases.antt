@@ -43,9 +43,9 @@ blackStream colorspace = fourteen 1 1 3 colorspace ++ (0xc0 ∷ 0 ∷ 0 ∷ 0 �
 abbrev wrongMagic : ℕ → ℕ → List ℕ
 wrongMagic channels colorspace = replicate 12 0 ++ (channels ∷ colorspace ∷ [])
 
--- the record at the start of a 1x1 RGB message, wanted 3
+-- the record at the start of message 7, 1x1 RGB, wanted 3
 abbrev startRecord : List ℕ
-startRecord = recordBytes (stateFrom 1 1 Rgb 3)
+startRecord = recordBytes (stateFrom 1 1 Rgb 7 3)
 
 -- the slots that hold A in slot 33 and B in slot 53: 33, 19 and 10 empty ones stand before, between and after
 abbrev slotsOfAB : List ℕ
@@ -54,6 +54,10 @@ slotsOfAB = replicate 132 0 ++ (rgba 100 0 0 255 ++ (replicate 76 0 ++ (rgba 0 0
 -- the largest number of a record, 2^64-1
 abbrev largest : ℕ
 largest = 18446744073709551615
+
+-- its bytes
+abbrev largestBytes : List ℕ
+largestBytes = replicate 9 0xff ++ (0x01 ∷ [])
 
 -- rows marked P, in the table's order
 proved : List Case
@@ -171,9 +175,9 @@ empty =
     -- the document
     ∷ documentsInto [] 3 0 (refusal 1 []) []
     -- a start
-    ∷ starts [] 3 (refusal 1 [])
+    ∷ starts [] 7 3 (refusal 1 [])
     -- a record
-    ∷ readsBack [] (refusal 1 [])
+    ∷ readsBack 7 [] (refusal 1 [])
     -- a number
     ∷ countsBack [] (refusal 1 [])
     ∷ []
@@ -434,13 +438,15 @@ filled =
 steps : List Case
 steps =
     -- a start: header
-    starts (wrongMagic 5 9) 300 (refusal 2 (5 ∷ []))
+    starts (wrongMagic 5 9) 7 300 (refusal 2 (5 ∷ []))
     -- then 2, capped at 255
-    ∷ starts (headed 1 1 Rgb []) 300 (refusal 2 (255 ∷ []))
+    ∷ starts (headed 1 1 Rgb []) 7 300 (refusal 2 (255 ∷ []))
     -- byte position 14, pixel position 0, the wanted channels, every pixel left
-    ∷ starts (headed 1 1 Rgb []) 4 (accepted (14 ∷ 0 ∷ 4 ∷ 1 ∷ []))
+    ∷ starts (headed 1 1 Rgb []) 7 4 (accepted (14 ∷ 0 ∷ 4 ∷ 1 ∷ []))
+    -- any number, which the state keeps
+    ∷ starts (headed 1 1 Rgb []) largest 4 (accepted (14 ∷ 0 ∷ 4 ∷ 1 ∷ []))
     -- its header is the message's
-    ∷ starts (blackStream 1) 3 (accepted (14 ∷ 0 ∷ 3 ∷ 1 ∷ []))
+    ∷ starts (blackStream 1) 7 3 (accepted (14 ∷ 0 ∷ 3 ∷ 1 ∷ []))
     -- a state is well formed if the header passes its own test: else 9, before 7
     ∷ stepsOn (stateAt 20000 20001 Rgb 3 14 0 255) [] 0 (refusal 9 []) []
     -- and has a pixel
@@ -487,63 +493,84 @@ recordRows =
     -- the first in two
     ∷ counts 128 (0x80 ∷ 0x01 ∷ [])
     -- at most 2^64-1
-    ∷ counts largest (0xff ∷ 0xff ∷ 0xff ∷ 0xff ∷ 0xff ∷ 0xff ∷ 0xff ∷ 0xff ∷ 0xff ∷ 0x01 ∷ [])
+    ∷ counts largest largestBytes
     -- a tenth byte above 01 is 9
-    ∷ countsBack (0xff ∷ 0xff ∷ 0xff ∷ 0xff ∷ 0xff ∷ 0xff ∷ 0xff ∷ 0xff ∷ 0xff ∷ 0x02 ∷ []) (refusal 9 [])
+    ∷ countsBack (replicate 9 0xff ++ (0x02 ∷ [])) (refusal 9 [])
     -- not shortest is 9
     ∷ countsBack (0x82 ∷ 0x00 ∷ []) (refusal 9 [])
     -- cut short is 1
     ∷ countsBack (0x82 ∷ []) (refusal 1 [])
-    -- the shortest record, 277 bytes; bytes after it stay
-    ∷ records (stateFrom 1 1 Rgb 3) 279 (accepted (277 ∷ []))
-    (fourteen 1 1 3 0 ++ (3 ∷ 14 ∷ 0 ∷ (rgba 0 0 0 255 ++ (replicate 256 0 ++ held 2))))
+    -- the shortest record, 278 bytes; bytes after it stay
+    ∷ records (stateFrom 1 1 Rgb 7 3) 280 (accepted (278 ∷ []))
+    (fourteen 1 1 3 0 ++ (3 ∷ 14 ∷ 0 ∷ (rgba 0 0 0 255 ++ (replicate 256 0 ++ (7 ∷ held 2)))))
+    -- the largest number takes ten bytes
+    ∷ records (stateFrom 1 1 Rgb largest 3) 287 (accepted (287 ∷ []))
+    (fourteen 1 1 3 0 ++ (3 ∷ 14 ∷ 0 ∷ (rgba 0 0 0 255 ++ (replicate 256 0 ++ largestBytes))))
     -- A B A A B after two steps: byte position 22, pixel position 2, current pixel B, both in their slots
-    ∷ records (stateAfter 2 5 1 Rgb 3 chunksABAAB) 277 (accepted (277 ∷ []))
-    (fourteen 5 1 3 0 ++ (3 ∷ 22 ∷ 2 ∷ (rgba 0 0 0 255 ++ slotsOfAB)))
+    ∷ records (stateAfter 2 5 1 Rgb 3 chunksABAAB) 278 (accepted (278 ∷ []))
+    (fourteen 5 1 3 0 ++ (3 ∷ 22 ∷ 2 ∷ (rgba 0 0 0 255 ++ (slotsOfAB ++ (7 ∷ [])))))
     -- writing: 9, before 7
-    ∷ records (stateFrom 1 1 Rgb 5) 276 (refusal 9 []) (held 276)
+    ∷ records (stateFrom 1 1 Rgb 7 5) 277 (refusal 9 []) (held 277)
     -- 9 where there is room, too: nothing is written
-    ∷ records (stateFrom 1 1 Rgb 5) 277 (refusal 9 []) (held 277)
+    ∷ records (stateFrom 1 1 Rgb 7 5) 278 (refusal 9 []) (held 278)
     -- also where the pixels left do not add up
-    ∷ records (stateLeft 3 1 Rgb 3 14 1 3 255) 277 (refusal 9 []) (held 277)
+    ∷ records (stateLeft 3 1 Rgb 3 14 1 3 255) 278 (refusal 9 []) (held 278)
     -- then 7: required is its length
-    ∷ records (stateFrom 1 1 Rgb 3) 276 (refusal 7 (276 ∷ 277 ∷ [])) (held 276)
+    ∷ records (stateFrom 1 1 Rgb 7 3) 277 (refusal 7 (277 ∷ 278 ∷ [])) (held 277)
     -- reading back gives the same state
-    ∷ readsBack startRecord (accepted (14 ∷ 0 ∷ 3 ∷ 1 ∷ []))
+    ∷ readsBack 7 startRecord (accepted (14 ∷ 0 ∷ 3 ∷ 1 ∷ []))
     -- also in the middle of A B A A B
-    ∷ readsBack (recordBytes (stateAfter 2 5 1 Rgb 3 chunksABAAB)) (accepted (22 ∷ 2 ∷ 3 ∷ 3 ∷ []))
+    ∷ readsBack 7 (recordBytes (stateAfter 2 5 1 Rgb 3 chunksABAAB)) (accepted (22 ∷ 2 ∷ 3 ∷ 3 ∷ []))
     -- also with wanted 4
-    ∷ readsBack (recordBytes (stateFrom 1 1 Rgb 4)) (accepted (14 ∷ 0 ∷ 4 ∷ 1 ∷ []))
+    ∷ readsBack 7 (recordBytes (stateFrom 1 1 Rgb 7 4)) (accepted (14 ∷ 0 ∷ 4 ∷ 1 ∷ []))
+    -- also of the largest number
+    ∷ readsBack largest (recordBytes (stateFrom 1 1 Rgb largest 3)) (accepted (14 ∷ 0 ∷ 3 ∷ 1 ∷ []))
     -- reading goes left to right: a header cut short is 1
-    ∷ readsBack (take 13 startRecord) (refusal 1 [])
+    ∷ readsBack 7 (take 13 startRecord) (refusal 1 [])
     -- header as above
-    ∷ readsBack (wrongMagic 5 9) (refusal 2 (5 ∷ []))
+    ∷ readsBack 7 (wrongMagic 5 9) (refusal 2 (5 ∷ []))
     -- cut short before wanted: 1
-    ∷ readsBack (take 14 startRecord) (refusal 1 [])
+    ∷ readsBack 7 (take 14 startRecord) (refusal 1 [])
     -- wanted not shortest: 9
-    ∷ readsBack (take 14 startRecord ++ (0x82 ∷ 0x00 ∷ [])) (refusal 9 [])
+    ∷ readsBack 7 (take 14 startRecord ++ (0x82 ∷ 0x00 ∷ [])) (refusal 9 [])
     -- wanted other than 3 or 4 is 2 at its place
-    ∷ readsBack (take 14 startRecord ++ (0x05 ∷ [])) (refusal 2 (5 ∷ []))
+    ∷ readsBack 7 (take 14 startRecord ++ (0x05 ∷ [])) (refusal 2 (5 ∷ []))
     -- capped at 255
-    ∷ readsBack (take 14 startRecord ++ (0xac ∷ 0x02 ∷ [])) (refusal 2 (255 ∷ []))
+    ∷ readsBack 7 (take 14 startRecord ++ (0xac ∷ 0x02 ∷ [])) (refusal 2 (255 ∷ []))
     -- byte position not shortest: 9
-    ∷ readsBack (take 15 startRecord ++ (0x8e ∷ 0x00 ∷ [])) (refusal 9 [])
+    ∷ readsBack 7 (take 15 startRecord ++ (0x8e ∷ 0x00 ∷ [])) (refusal 9 [])
     -- cut short before pixel position: 1
-    ∷ readsBack (take 16 startRecord) (refusal 1 [])
+    ∷ readsBack 7 (take 16 startRecord) (refusal 1 [])
     -- pixel position not shortest: 9
-    ∷ readsBack (take 16 startRecord ++ (0x80 ∷ 0x00 ∷ [])) (refusal 9 [])
+    ∷ readsBack 7 (take 16 startRecord ++ (0x80 ∷ 0x00 ∷ [])) (refusal 9 [])
     -- the last slot cut short: 1
-    ∷ readsBack (take 276 startRecord) (refusal 1 [])
+    ∷ readsBack 7 (take 276 startRecord) (refusal 1 [])
     -- cut short comes before byte position 13
-    ∷ readsBack (take 15 startRecord ++ (0x0d ∷ 0x00 ∷ replicate 259 0)) (refusal 1 [])
-    -- after the last slot, byte position 13 is 9
-    ∷ readsBack (take 15 startRecord ++ (0x0d ∷ 0x00 ∷ (rgba 0 0 0 255 ++ replicate 256 0))) (refusal 9 [])
+    ∷ readsBack 7 (take 15 startRecord ++ (0x0d ∷ 0x00 ∷ replicate 259 0)) (refusal 1 [])
+    -- a record from before it had a number ends too early: 1
+    ∷ readsBack 7 (take 277 startRecord) (refusal 1 [])
+    -- also where its byte position is 13: the number comes before the state's other faults
+    ∷ readsBack 7 (take 15 startRecord ++ (0x0d ∷ 0x00 ∷ (rgba 0 0 0 255 ++ replicate 256 0))) (refusal 1 [])
+    -- the number cut short: 1
+    ∷ readsBack 7 (take 277 startRecord ++ (0x87 ∷ [])) (refusal 1 [])
+    -- not shortest: 9
+    ∷ readsBack 7 (take 277 startRecord ++ (0x87 ∷ 0x00 ∷ [])) (refusal 9 [])
+    -- above 2^64-1: 9
+    ∷ readsBack largest (take 277 startRecord ++ (replicate 9 0xff ++ (0x02 ∷ []))) (refusal 9 [])
+    -- after the number, byte position 13 is 9, before another number
+    ∷ readsBack 8 (take 15 startRecord ++ (0x0d ∷ 0x00 ∷ (rgba 0 0 0 255 ++ (replicate 256 0 ++ (7 ∷ []))))) (refusal 9 [])
     -- so is pixel position 2 of 1
-    ∷ readsBack (take 15 startRecord ++ (0x0e ∷ 0x02 ∷ (rgba 0 0 0 255 ++ replicate 256 0))) (refusal 9 [])
+    ∷ readsBack 8 (take 15 startRecord ++ (0x0e ∷ 0x02 ∷ (rgba 0 0 0 255 ++ (replicate 256 0 ++ (7 ∷ []))))) (refusal 9 [])
     -- and a current pixel whose fourth byte is 254, with wanted 3
-    ∷ readsBack (take 15 startRecord ++ (0x0e ∷ 0x00 ∷ (rgba 0 0 0 254 ++ replicate 256 0))) (refusal 9 [])
-    -- extra bytes last: 9
-    ∷ readsBack (startRecord ++ (0 ∷ [])) (refusal 9 [])
+    ∷ readsBack 8 (take 15 startRecord ++ (0x0e ∷ 0x00 ∷ (rgba 0 0 0 254 ++ (replicate 256 0 ++ (7 ∷ []))))) (refusal 9 [])
+    -- extra bytes: 9, before another number
+    ∷ readsBack 8 (startRecord ++ (0 ∷ [])) (refusal 9 [])
+    -- extra bytes with the number expected
+    ∷ readsBack 7 (startRecord ++ (0 ∷ [])) (refusal 9 [])
+    -- another number last: 12, with the number found
+    ∷ readsBack 8 startRecord (refusal 12 (7 ∷ []))
+    -- whatever its size
+    ∷ readsBack 7 (recordBytes (stateFrom 1 1 Rgb largest 3)) (refusal 12 (largest ∷ []))
     ∷ []
 
 -- the comparison that judges the rows above and knows the marker

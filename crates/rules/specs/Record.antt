@@ -7,7 +7,7 @@ use lib.Dec.{ltb, eqb}
 use lib.ListN.{length, drop}
 use Rattle.pixel.specs.declared.Pixel.{Pixel}
 use Rattle.pixel.specs.declared.error.Error.{Error}
-use Rattle.pixel.specs.declared.error.Error.the-variants.{UnexpectedBufferEnd, BadState, OutputBufferTooSmall}
+use Rattle.pixel.specs.declared.error.Error.the-variants.{UnexpectedBufferEnd, BadState, OutputBufferTooSmall, OtherMessage}
 use Rattle.pixel.specs.declared.types.ChannelsRead.{ChannelsRead}
 use Rattle.pixel.specs.declared.types.ChannelsRead.the-variants as channels-read
 use Rattle.pixel.specs.Types.{channelsNumber, channelsFrom}
@@ -27,7 +27,8 @@ unfoldable pub pixelsBytes : List Pixel → List ℕ
 pixelsBytes [] = []
 pixelsBytes (p ∷ ps) = p .rgba ++ pixelsBytes ps
 
--- 14 header bytes; wanted, byte position, pixel position in groups of seven bits; current pixel; slots in order
+-- 14 header bytes; wanted, byte position, pixel position in groups of seven bits; current pixel; slots in order; the
+-- message's number in groups of seven bits
 unfoldable pub recordBytes : State → List ℕ
 recordBytes s =
     headerBytes (s .header)
@@ -35,7 +36,8 @@ recordBytes s =
     ++ (sevenBits (s .place .at)
     ++ (sevenBits (s .place .pixel)
     ++ (s .place .current .rgba
-    ++ pixelsBytes (s .place .slots)))))
+    ++ (pixelsBytes (s .place .slots)
+    ++ sevenBits (s .number))))))
 
 -- the record's length, or a refusal
 pub data Recorded : Type 0 where
@@ -60,17 +62,23 @@ unfoldable pub afterNumber : List ℕ → NumberRead → (ℕ → List ℕ → S
 afterNumber bytes (number-read.Number value used) next = next value (drop used bytes)
 afterNumber bytes (number-read.Refused e) next = notStarted e
 
--- after the last slot: the other faults of state, 9; extra bytes last, 9
-unfoldable pub acceptState : State → ℕ → Started
-acceptState s extra =
-    cond (wellFormed s) (cond (eqb extra 0) (started s) (notStarted BadState)) (notStarted BadState)
+-- last of all 12, with the number found, for another number than the one expected
+unfoldable pub acceptNumber : ℕ → State → Started
+acceptNumber expected s = cond (eqb (s .number) expected) (started s) (notStarted (OtherMessage (s .number)))
 
--- the current pixel and the slots: 260 bytes, cut short is 1. The record does not hold the pixels left: they are
--- those from the pixel position on
-unfoldable pub readSlots : Header → ℕ → ℕ → ℕ → List ℕ → Started
-readSlots header wanted at pixel bytes =
+-- after the number: the other faults of state, 9; extra bytes, 9
+unfoldable pub acceptState : ℕ → State → ℕ → Started
+acceptState expected s extra =
+    cond (wellFormed s) (cond (eqb extra 0) (acceptNumber expected s) (notStarted BadState)) (notStarted BadState)
+
+-- the current pixel and the slots, 260 bytes, cut short is 1; then the message's number. The record does not hold the
+-- pixels left: they are those from the pixel position on
+unfoldable pub readSlots : ℕ → Header → ℕ → ℕ → ℕ → List ℕ → Started
+readSlots expected header wanted at pixel bytes =
     cond (ltb (length bytes) 260) (notStarted UnexpectedBufferEnd)
-    (acceptState
+    (afterNumber (drop 260 bytes) (readNumber (drop 260 bytes))
+    (λ number rest.
+    acceptState expected
     (record {
       header = header;
       wanted = wanted;
@@ -81,23 +89,25 @@ readSlots header wanted at pixel bytes =
         slots = pixelsFrom 64 4 (drop 4 bytes);
       };
       left = pixelCount header - pixel;
+      number = number;
     })
-    (length (drop 260 bytes)))
+    (length rest)))
 
 -- after wanted, where other than 3 or 4 is 2: byte position and pixel position
-unfoldable pub readPositions : Header → ChannelsRead → List ℕ → Started
-readPositions header (channels-read.Refused e) bytes = notStarted e
-readPositions header (channels-read.Ok channels) bytes =
+unfoldable pub readPositions : ℕ → Header → ChannelsRead → List ℕ → Started
+readPositions expected header (channels-read.Refused e) bytes = notStarted e
+readPositions expected header (channels-read.Ok channels) bytes =
     afterNumber bytes (readNumber bytes)
-    (λ at rest. afterNumber rest (readNumber rest) (λ pixel rest′. readSlots header (channelsNumber channels) at pixel rest′))
+    (λ at rest.
+    afterNumber rest (readNumber rest) (λ pixel rest′. readSlots expected header (channelsNumber channels) at pixel rest′))
 
 -- after the header, with its refusals: wanted
-unfoldable pub readWanted : HeaderRead → List ℕ → Started
-readWanted (header-read.Refused e) bytes = notStarted e
-readWanted (header-read.Ok header) bytes =
-    afterNumber bytes (readNumber bytes) (λ wanted rest. readPositions header (channelsFrom wanted) rest)
+unfoldable pub readWanted : ℕ → HeaderRead → List ℕ → Started
+readWanted expected (header-read.Refused e) bytes = notStarted e
+readWanted expected (header-read.Ok header) bytes =
+    afterNumber bytes (readNumber bytes) (λ wanted rest. readPositions expected header (channelsFrom wanted) rest)
 
--- reading a record: header; numbers, cut 1 or not shortest 9; wanted 2 at its place; slots; the faults of state;
--- extra bytes
-unfoldable pub readRecord : List ℕ → Started
-readRecord bytes = readWanted (headerOf bytes) (drop 14 bytes)
+-- reading a record, given the message's number that is expected: header; numbers, cut 1 or not shortest 9; wanted 2 at
+-- its place; slots; the number; the faults of state; extra bytes; another number
+unfoldable pub readRecord : ℕ → List ℕ → Started
+readRecord expected bytes = readWanted expected (headerOf bytes) (drop 14 bytes)

@@ -20,12 +20,14 @@ use Rattle.rules.specs.Bytes.{pasted}
 use Rattle.rules.specs.Reading.{Place, Answer, refused, Move, startPlace, sizeWanted, move}
 use Rattle.rules.specs.Decode.{decoder}
 
--- header, wanted channels, the place (byte position, pixel position, current pixel, slots), and the pixels left
+-- header, wanted channels, the place (byte position, pixel position, current pixel, slots), the pixels left, and the
+-- broker's number of the message
 pub record State : Type 0 where
   pub header : Header
   pub wanted : ℕ
   pub place : Place
   pub left : ℕ
+  pub number : ℕ
 
 -- the header passes its own test
 abbrev pub headerPasses : State → Bool
@@ -51,7 +53,7 @@ leftPasses s = eqb (s .place .pixel + s .left) (pixelCount (s .header))
 abbrev pub alphaPasses : State → Bool
 alphaPasses s = not (eqb (s .wanted) 3) || eqb (alpha (s .place .current)) 255
 
--- a state is well formed if it passes all six
+-- a state is well formed if it passes all six; it may have any number
 unfoldable pub wellFormed : State → Bool
 wellFormed s =
     headerPasses s && (wantedPasses s && (atPasses s && (pixelPasses s && (leftPasses s && alphaPasses s))))
@@ -61,6 +63,7 @@ pub record Typed (s : State) : Type 0 where
   pub width-fits : s .header .width < 2 ^ 32
   pub height-fits : s .header .height < 2 ^ 32
   pub at-fits : s .place .at < 2 ^ 64
+  pub number-fits : s .number < 2 ^ 64
   pub current-is : length (s .place .current .rgba) ≡ 4
   pub slots-are : length (s .place .slots) ≡ 64
   pub slot-is : (i : ℕ) → i < 64 → length (getD (s .place .slots) i clearPixel .rgba) ≡ 4
@@ -70,24 +73,24 @@ pub data Started : Type 0 where
   started : State → Started
   notStarted : Error → Started
 
--- the state before the first chunk: every pixel is left
-abbrev pub startState : Header → ℕ → State
-startState header wanted = record { header = header; wanted = wanted; place = startPlace; left = pixelCount header }
+-- the state before the first chunk of the message with a number: every pixel is left
+abbrev pub startState : Header → ℕ → ℕ → State
+startState header number wanted =
+    record { header = header; wanted = wanted; place = startPlace; left = pixelCount header; number = number }
 
 -- 2 for wanted other than 3 or 4; else the start's state
-unfoldable pub startWanted : Header → ChannelsRead → Started
-startWanted header (channels-read.Refused e) = notStarted e
-startWanted header (channels-read.Ok channels) =
-    started (startState header (channelsNumber channels))
+unfoldable pub startWanted : Header → ℕ → ChannelsRead → Started
+startWanted header number (channels-read.Refused e) = notStarted e
+startWanted header number (channels-read.Ok channels) = started (startState header number (channelsNumber channels))
 
 -- the header's refusals come first
-unfoldable pub startHeader : ℕ → HeaderRead → Started
-startHeader wanted (header-read.Refused e) = notStarted e
-startHeader wanted (header-read.Ok header) = startWanted header (channelsFrom wanted)
+unfoldable pub startHeader : ℕ → ℕ → HeaderRead → Started
+startHeader number wanted (header-read.Refused e) = notStarted e
+startHeader number wanted (header-read.Ok header) = startWanted header number (channelsFrom wanted)
 
--- starting a stepwise decode: header, 2
-unfoldable pub starting : List ℕ → ℕ → Started
-starting message wanted = startHeader wanted (headerOf message)
+-- starting a stepwise decode of a message, given its number and wanted: header, 2
+unfoldable pub starting : List ℕ → ℕ → ℕ → Started
+starting message number wanted = startHeader number wanted (headerOf message)
 
 -- the next state and the bytes that the step writes, or the end, which writes nothing and leaves the state
 pub data Step : Type 0 where
@@ -102,6 +105,7 @@ movedTo s place =
       wanted = s .wanted;
       place = place;
       left = s .left - (place .pixel - s .place .pixel);
+      number = s .number;
     }
 
 -- a move of the decoder as a step

@@ -56,6 +56,9 @@ tests-13 c = tests-12 (c .before)
 abbrev tests-14 : tie.Else14 → tie.After-empty
 tests-14 c = tests-13 (c .before)
 
+abbrev tests-15 : tie.Else15 → tie.After-empty
+tests-15 c = tests-14 (c .before)
+
 -- what is said of a number, with the figures that are given
 abbrev saying : ℕ → tie.After-empty → List Part
 saying number none = sentence number (none .before .args .a) (none .before .args .b) (none .before .args .c)
@@ -140,33 +143,39 @@ returns-11 c =
 returns-12 : tie.Need-returns-12
 unfolding sentence
 returns-12 c =
-    let one = c .before .before in
-    let test = one .before .before in
-    told 19 (tests-11 (test .before)) (test .if12 .taken) (c .words8 .result) (lit≤ tt) (one .figure10 .result, one .figure10 .ensures, (c .words8 .result, c .words8 .ensures, refl))
+    let test = c .before .before in
+    told 12 (tests-11 (test .before)) (test .if12 .taken) (c .figure10 .result) (lit≤ tt) (c .figure10 .result, c .figure10 .ensures, refl)
 
 returns-13 : tie.Need-returns-13
 unfolding sentence
 returns-13 c =
-    let two = c .before .before in
-    let one = two .before .before in
+    let one = c .before .before in
     let test = one .before .before in
-    told 20 (tests-12 (test .before)) (test .if13 .taken) (c .words9 .result) (lit≤ tt) (one .figure11 .result, one .figure11 .ensures, (two .figure12 .result, two .figure12 .ensures, (c .words9 .result, c .words9 .ensures, refl)))
+    told 19 (tests-12 (test .before)) (test .if13 .taken) (c .words8 .result) (lit≤ tt) (one .figure11 .result, one .figure11 .ensures, (c .words8 .result, c .words8 .ensures, refl))
 
 returns-14 : tie.Need-returns-14
 unfolding sentence
 returns-14 c =
-    let one = c .before .before in
+    let two = c .before .before in
+    let one = two .before .before in
     let test = one .before .before in
-    told 21 (tests-13 (test .before)) (test .if14 .taken) (c .words10 .result) (lit≤ tt) (one .figure13 .result, one .figure13 .ensures, (c .words10 .result, c .words10 .ensures, refl))
+    told 20 (tests-13 (test .before)) (test .if14 .taken) (c .words9 .result) (lit≤ tt) (one .figure12 .result, one .figure12 .ensures, (two .figure13 .result, two .figure13 .ensures, (c .words9 .result, c .words9 .ensures, refl)))
 
 returns-15 : tie.Need-returns-15
 unfolding sentence
 returns-15 c =
+    let one = c .before .before in
+    let test = one .before .before in
+    told 21 (tests-14 (test .before)) (test .if15 .taken) (c .words10 .result) (lit≤ tt) (one .figure14 .result, one .figure14 .ensures, (c .words10 .result, c .words10 .ensures, refl))
+
+returns-16 : tie.Need-returns-16
+unfolding sentence
+returns-16 c =
     let others = c .before .before in
-    let none = tests-14 others in
+    let none = tests-15 others in
     let number = none .before .args .number in
-    rw (ne-eqb number 1 (others .before .before .before .before .before .before .before .before .before .before .before .before .before .if1 .left), ne-eqb number 2 (others .before .before .before .before .before .before .before .before .before .before .before .before .if2 .left), ne-eqb number 3 (others .before .before .before .before .before .before .before .before .before .before .before .if3 .left), ne-eqb number 4 (others .before .before .before .before .before .before .before .before .before .before .if4 .left), ne-eqb number 5 (others .before .before .before .before .before .before .before .before .before .if5 .left), ne-eqb number 6 (others .before .before .before .before .before .before .before .before .if6 .left), ne-eqb number 7 (others .before .before .before .before .before .before .before .if7 .left), ne-eqb number 8 (others .before .before .before .before .before .before .if8 .left), ne-eqb number 9 (others .before .before .before .before .before .if9 .left), ne-eqb number 10 (others .before .before .before .before .if10 .left), ne-eqb number 11 (others .before .before .before .if11 .left), ne-eqb number 19 (others .before .before .if12 .left), ne-eqb number 20 (others .before .if13 .left), ne-eqb number 21 (others .if14 .left))
-    (spoken-whole (figure "unknown refusal: " number ∷ []) (none .empty .result) (c .figure14 .result) (lit≤ tt) (none .empty .ensures) (c .figure14 .result, c .figure14 .ensures, refl))
+    rw (ne-eqb number 1 (others .before .before .before .before .before .before .before .before .before .before .before .before .before .before .if1 .left), ne-eqb number 2 (others .before .before .before .before .before .before .before .before .before .before .before .before .before .if2 .left), ne-eqb number 3 (others .before .before .before .before .before .before .before .before .before .before .before .before .if3 .left), ne-eqb number 4 (others .before .before .before .before .before .before .before .before .before .before .before .if4 .left), ne-eqb number 5 (others .before .before .before .before .before .before .before .before .before .before .if5 .left), ne-eqb number 6 (others .before .before .before .before .before .before .before .before .before .if6 .left), ne-eqb number 7 (others .before .before .before .before .before .before .before .before .if7 .left), ne-eqb number 8 (others .before .before .before .before .before .before .before .if8 .left), ne-eqb number 9 (others .before .before .before .before .before .before .if9 .left), ne-eqb number 10 (others .before .before .before .before .before .if10 .left), ne-eqb number 11 (others .before .before .before .before .if11 .left), ne-eqb number 12 (others .before .before .before .if12 .left), ne-eqb number 19 (others .before .before .if13 .left), ne-eqb number 20 (others .before .if14 .left), ne-eqb number 21 (others .if15 .left))
+    (spoken-whole (figure "unknown refusal: " number ∷ []) (none .empty .result) (c .figure15 .result) (lit≤ tt) (none .empty .ensures) (c .figure15 .result, c .figure15 .ensures, refl))
 
 pub of-spec : {M : Type 1} → statement M
 of-spec =
@@ -219,11 +228,7 @@ of-spec =
     returns-11
     (λ c. search needs)
     (λ c κs. search needs)
-    (λ c. search needs)
-    (λ c κs. search needs)
     returns-12
-    (λ c. search needs)
-    (λ c κs. search needs)
     (λ c. search needs)
     (λ c κs. search needs)
     (λ c. search needs)
@@ -233,7 +238,14 @@ of-spec =
     (λ c κs. search needs)
     (λ c. search needs)
     (λ c κs. search needs)
+    (λ c. search needs)
+    (λ c κs. search needs)
     returns-14
     (λ c. search needs)
     (λ c κs. search needs)
-    returns-15)
+    (λ c. search needs)
+    (λ c κs. search needs)
+    returns-15
+    (λ c. search needs)
+    (λ c κs. search needs)
+    returns-16)

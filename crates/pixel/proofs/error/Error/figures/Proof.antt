@@ -31,10 +31,14 @@ returns-13 c = rw (c .before .self8 .given .1)
 returns-14 : tie.Need-returns-14
 returns-14 c = rw (c .before .self9 .given .1)
 
+returns-15 : tie.Need-returns-15
+returns-15 c = rw (c .before .self10 .given .1)
+
 pub figures-spec : {M : Type 1} → statement M
 figures-spec =
     tie.close
     (tie.spec
+    (λ c. search needs)
     (λ c. search needs)
     (λ c. search needs)
     (λ c. search needs)
@@ -69,4 +73,5 @@ figures-spec =
     (λ c. search needs)
     returns-12
     returns-13
-    returns-14)
+    returns-14
+    returns-15)
