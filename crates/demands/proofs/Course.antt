@@ -33,35 +33,35 @@ use Rattle.demands.specs.TakeOver.{bytesBefore}
 use Rattle.rules.proofs.StepLaws.{nextState, bytesBy, moveFrom, needed, well-next}
 
 -- what a start that is accepted has read
-record Opening (m : List ℕ) (w : ℕ) (s : State) : Type 0 where
+record Opening (m : List ℕ) (number w : ℕ) (s : State) : Type 0 where
   header : Header
   channels : Channels
   reads : headerOf m ≡ header-read.Ok header
   wants : channelsFrom w ≡ channels-read.Ok channels
-  is : startState header (channelsNumber channels) ≡ s
+  is : startState header number (channelsNumber channels) ≡ s
 
-opening : (m : List ℕ) (w : ℕ) (s : State) → starting m w ≡ started s → Opening m w s
+opening : (m : List ℕ) (number w : ℕ) (s : State) → starting m number w ≡ started s → Opening m number w s
 unfolding starting startHeader startWanted
-opening m w s e = heading (headerOf m) refl e
+opening m number w s e = heading (headerOf m) refl e
   where
     wanting :
         (header : Header) → headerOf m ≡ header-read.Ok header → (c : ChannelsRead) → channelsFrom w ≡ c
-        → startWanted header c ≡ started s → Opening m w s
+        → startWanted header number c ≡ started s → Opening m number w s
     wanting header reads (channels-read.Refused x) wants e = absurd (refused-is-no-start e)
     wanting header reads (channels-read.Ok channels) wants e =
         record { header = header; channels = channels; reads = reads; wants = wants; is = cc }
 
-    heading : (r : HeaderRead) → headerOf m ≡ r → startHeader w r ≡ started s → Opening m w s
+    heading : (r : HeaderRead) → headerOf m ≡ r → startHeader number w r ≡ started s → Opening m number w s
     heading (header-read.Refused x) reads e = absurd (refused-is-no-start e)
     heading (header-read.Ok header) reads e = wanting header reads (channelsFrom w) refl e
 
 -- the uncut decode reads with the header and the channels that a start takes
 uncut-reads :
-    (m : List ℕ) (w room : ℕ) (s : State) → starting m w ≡ started s
+    (m : List ℕ) (number w room : ℕ) (s : State) → starting m number w ≡ started s
     → decoding m w room ≡ readingInto decoder (s .header) (s .wanted) m room
 unfolding wholeReading afterHeader afterWanted
-uncut-reads m w room s e =
-    let o = opening m w s e in
+uncut-reads m number w room s e =
+    let o = opening m number w s e in
     rw (← o .is, o .reads, o .wants)
 
 -- the reading from a state to its end
@@ -74,25 +74,35 @@ wholeFrom m (started s) = ahead m s
 wholeFrom m (notStarted e) = silent (refused e)
 
 -- channels are 3 or 4
-channels-wanted : (header : Header) (c : Channels) → T (wantedPasses (startState header (channelsNumber c)))
-channels-wanted header Rgb = tt
-channels-wanted header Rgba = tt
+channels-wanted : (header : Header) (number : ℕ) (c : Channels) → T (wantedPasses (startState header number (channelsNumber c)))
+channels-wanted header number Rgb = tt
+channels-wanted header number Rgba = tt
 
 -- the fourth byte is 255 at the start
-start-opaque : (header : Header) (c : Channels) → T (alphaPasses (startState header (channelsNumber c)))
+start-opaque : (header : Header) (number : ℕ) (c : Channels) → T (alphaPasses (startState header number (channelsNumber c)))
 unfolding startPlace
-start-opaque header Rgb = tt
-start-opaque header Rgba = tt
+start-opaque header number Rgb = tt
+start-opaque header number Rgba = tt
 
 module _ (m : List ℕ) (w : ℕ) where
+  -- the message is accepted with this header, to so many channels: it starts under every number, which takes no part in
+  -- its decode
+  abbrev Opens : Header → ℕ → Type 0
+  Opens header wanted = (number : ℕ) → starting m number w ≡ started (startState header number wanted)
+
+  -- what a start under one number has read, one under each reads
+  opens : (number : ℕ) (s : State) (o : Opening m number w s) → Opens (o .header) (channelsNumber (o .channels))
+  unfolding starting startHeader startWanted
+  opens number s o other = rw (o .reads, o .wants)
+
   -- the whole reading of the message
   abbrev pub whole : Reading
-  whole = wholeFrom m (starting m w)
+  whole = wholeFrom m (starting m 0 w)
 
   -- a state that the uncut decode passes: the first bytes of the whole reading, up to its pixel, and the reading from
   -- it are the whole reading
   pub record OnCourse (s : State) : Type 0 where
-    pub opened : starting m w ≡ started (startState (s .header) (s .wanted))
+    pub opened : Opens (s .header) (s .wanted)
     pub well : T (wellFormed s)
     pub typed : Typed s
     pub inside : s .place .at ≤ length m
@@ -102,29 +112,30 @@ module _ (m : List ℕ) (w : ℕ) where
 
   -- a start is on course
   start-on-course :
-      (header : Header) (c : Channels) → headerOf m ≡ header-read.Ok header → length m < 2 ^ 64
-      → starting m w ≡ started (startState header (channelsNumber c)) → OnCourse (startState header (channelsNumber c))
+      (header : Header) (number : ℕ) (c : Channels) → headerOf m ≡ header-read.Ok header → length m < 2 ^ 64
+      → number < 2 ^ 64 → Opens header (channelsNumber c) → OnCourse (startState header number (channelsNumber c))
   unfolding startPlace wholeFrom
-  start-on-course header c reads small e =
+  start-on-course header number c reads small fits e =
       let accepted = header-accepted m header reads in
       let sides = sides-fit header (accepted .fit) in
       record {
         opened = e;
         well =
-            forms (startState header (channelsNumber c))
+            forms (startState header number (channelsNumber c))
             (record {
               header-passes = accepted .fit;
-              wanted-passes = channels-wanted header c;
+              wanted-passes = channels-wanted header number c;
               at-passes = tt;
               pixel-passes = le→leb 0 (pixelCount header) zero-le;
-              left-passes = left-adds (startState header (channelsNumber c)) (omega arith);
-              alpha-passes = start-opaque header c;
+              left-passes = left-adds (startState header number (channelsNumber c)) (omega arith);
+              alpha-passes = start-opaque header number c;
             });
         typed =
             record {
               width-fits = sides .0;
               height-fits = sides .1;
               at-fits = omega arith;
+              number-fits = fits;
               current-is = shaped-start .current-is;
               slots-are = shaped-start .slots-are;
               slot-is = shaped-start .slot-is;
@@ -132,25 +143,32 @@ module _ (m : List ℕ) (w : ℕ) where
         inside = accepted .whole;
         small = small;
         reaches = rw zero-mul zero-le;
-        path = rw (e, zero-mul);
+        path = rw (e 0, zero-mul);
       }
 
-  pub starts-on-course : (s : State) → length m < 2 ^ 64 → starting m w ≡ started s → OnCourse s
-  starts-on-course s small e =
-      let o = opening m w s e in
-      rw (← o .is) (start-on-course (o .header) (o .channels) (o .reads) small (e ∙ ap started (sym (o .is))))
+  pub starts-on-course :
+      (number : ℕ) (s : State) → length m < 2 ^ 64 → number < 2 ^ 64 → starting m number w ≡ started s → OnCourse s
+  starts-on-course number s small fits e =
+      let o = opening m number w s e in
+      rw (← o .is) (start-on-course (o .header) number (o .channels) (o .reads) small fits (opens number s o))
 
-  -- and has no byte before it
-  pub starts-at-none : (s : State) → starting m w ≡ started s → bytesBefore s ≡ 0
+  -- has no byte before it
+  pub starts-at-none : (number : ℕ) (s : State) → starting m number w ≡ started s → bytesBefore s ≡ 0
   unfolding startPlace
-  starts-at-none s e =
-      let o = opening m w s e in
+  starts-at-none number s e =
+      let o = opening m number w s e in
       rw (← o .is) (zero-mul (channelsNumber (o .channels)))
+
+  -- and has the number that it was given
+  pub starts-under : (number : ℕ) (s : State) → starting m number w ≡ started s → s .number ≡ number
+  starts-under number s e =
+      let o = opening m number w s e in
+      rw (← o .is)
 
   -- two states on it are of one picture
   pub same-needed : (s t : State) → OnCourse s → OnCourse t → needed s ≡ needed t
   same-needed s t on on′ =
-      let same : startState (s .header) (s .wanted) ≡ startState (t .header) (t .wanted) = cc (on .opened, on′ .opened) in
+      let same : startState (s .header) 0 (s .wanted) ≡ startState (t .header) 0 (t .wanted) = cc (on .opened 0, on′ .opened 0) in
       ap needed same
 
   module _ (s : State) (on : OnCourse s) where
@@ -167,13 +185,13 @@ module _ (m : List ℕ) (w : ℕ) where
     pub uncut-whole : (room : ℕ) → needed s ≤ room → decoding m w room ≡ whole
     unfolding readingInto wholeFrom
     uncut-whole room fits =
-        uncut-reads m w room (startState (s .header) (s .wanted)) (on .opened) ∙ rw (le-ltb room (needed s) fits, on .opened)
+        uncut-reads m 0 w room (startState (s .header) 0 (s .wanted)) (on .opened 0) ∙ rw (le-ltb room (needed s) fits, on .opened 0)
 
     -- into fewer it is 7
     pub uncut-short : (room : ℕ) → room < needed s → decoding m w room ≡ silent (refused (OutputBufferTooSmall room (needed s)))
     unfolding readingInto
     uncut-short room short =
-        uncut-reads m w room (startState (s .header) (s .wanted)) (on .opened) ∙ rw (lt-ltb room (needed s) short)
+        uncut-reads m 0 w room (startState (s .header) 0 (s .wanted)) (on .opened 0) ∙ rw (lt-ltb room (needed s) short)
 
     -- where the course ends the whole reading ends
     pub whole-ends :
@@ -231,6 +249,7 @@ module _ (m : List ℕ) (w : ℕ) where
                   width-fits = on .typed .width-fits;
                   height-fits = on .typed .height-fits;
                   at-fits = omega (arith, inside′, on .small);
+                  number-fits = on .typed .number-fits;
                   current-is = shape .current-is;
                   slots-are = shape .slots-are;
                   slot-is = shape .slot-is;

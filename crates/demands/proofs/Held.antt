@@ -64,6 +64,7 @@ module _ (m : List ℕ) (w : ℕ) where
   -- after a step from s to s′, which made o into o′
   pub record Onward (b o : List ℕ) (s s′ : State) (o′ : List ℕ) : Type 0 where
     pub on-course : OnCourse m w s′
+    pub under : s .number ≡ s′ .number
     pub holds : Held b o′ s′
     pub further : s .place .pixel < s′ .place .pixel
     pub fewer : s′ .left < s .left
@@ -152,6 +153,7 @@ module _ (m : List ℕ) (w : ℕ) where
       goes-there =
           record {
             on-course = goes-on-course m w s on k sound missing moves;
+            under = refl;
             holds = held-by (nextState s k) refl (rw (reached m w s on k sound missing moves) before-next);
             further = advances decoder (s .header) (s .wanted) (s .place) k (sound .once) missing;
             fewer = omega (arith, advances decoder (s .header) (s .wanted) (s .place) k (sound .once) missing, adds-up s (on .well));

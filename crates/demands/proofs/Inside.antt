@@ -29,5 +29,5 @@ module _ {m : List ℕ} {s : State} {o o′ : List ℕ} (stop : StoppedInside m 
       (ap (λ r. take (bytesBefore s) (outputOf r)) (sym (stop .ran)) ∙ run-keeps-before m (stop .steps) s o)
       (ap (λ r. take (bytesBefore s) (outputOf r)) (sym whole-step) ∙ run-keeps-before m (stop .steps + 1) s o)
 
-  pub left-inside : {w : ℕ} {b : List ℕ} → Life m w s o b → Life m w s o′ o′
+  pub left-inside : {number w : ℕ} {b : List ℕ} → Life m number w s o b → Life m number w s o′ o′
   left-inside life = taken-up life o′ inside-keeps-before (reached-readable life)

@@ -3,6 +3,7 @@ pub mod Steps
 pub mod Course
 pub mod Held
 pub mod TakeOver
+pub mod Broker
 pub mod Partly
 pub mod Workers
 pub mod Flushing

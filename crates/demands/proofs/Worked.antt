@@ -1,4 +1,4 @@
--- A history at work, computed: two pixels, c0 35, cut after the first and taken up on an output that holds other
+-- A history of message 7 at work, computed: two pixels, c0 35, cut after the first and taken up on an output that holds other
 -- bytes from there on.
 -- Assumes nothing.
 use mathlib.Core.Path.{_≡_, refl, ap}
@@ -44,7 +44,7 @@ found = 0 ∷ 0 ∷ 0 ∷ 255 ∷ 9 ∷ 9 ∷ 9 ∷ 9 ∷ 9 ∷ []
 
 -- the states: at the start, after the run, and after the INDEX
 abbrev atStart : State
-atStart = startState header 4
+atStart = startState header 7 4
 
 abbrev afterRun : State
 afterRun =
@@ -53,6 +53,7 @@ afterRun =
       wanted = 4;
       place = record { at = 15; pixel = 1; current = startPixel; slots = startPlace .slots };
       left = 1;
+      number = 7;
     }
 
 abbrev afterIndex : State
@@ -62,17 +63,18 @@ afterIndex =
       wanted = 4;
       place = record { at = 16; pixel = 2; current = clearPixel; slots = startPlace .slots };
       left = 0;
+      number = 7;
     }
 
-pub starts : Life message 4 atStart lent lent
+pub starts : Life message 7 4 atStart lent lent
 unfolding message headerBytes starting startHeader startWanted headerOf afterChannels afterColorSpace headerFrom
-starts = begun lent (lit< tt) refl
+starts = begun lent (lit< tt) (lit< tt) refl
 
-pub stops : Life message 4 afterRun cut lent
+pub stops : Life message 7 4 afterRun cut lent
 unfolding message headerBytes step stepBy wellFormed startPlace slotOf chunkFrom chunkAt colourOf timesOf sizeOf repeated pixelsBrought pixelAfter placeAfter bytesOf moveBy move decoderStores decoderKeeps decoderReadsRgba
 stops = stepped starts refl
 
-pub resumes : Life message 4 afterRun found found
+pub resumes : Life message 7 4 afterRun found found
 resumes = taken-up stops found refl (reached-readable stops)
 
 -- the second worker's two steps: both pixels are right, the byte after them is as it was found
@@ -82,9 +84,9 @@ ends = refl
 
 -- The order of flushing at work: the first worker's output over a store, flushed after its first step, and then the
 -- record of that step's state saved.
-pub stored : Stored message 4 afterRun cut lent [] afterRun (afterRun ∷ atStart ∷ [])
+pub stored : Stored message 7 4 afterRun cut lent [] afterRun (afterRun ∷ atStart ∷ [])
 unfolding message headerBytes starting startHeader startWanted headerOf afterChannels afterColorSpace headerFrom step stepBy wellFormed startPlace slotOf chunkFrom chunkAt colourOf timesOf sizeOf repeated pixelsBrought pixelAfter placeAfter bytesOf moveBy move decoderStores decoderKeeps decoderReadsRgba
-stored = store.saves (store.flushed (store.stepped (store.begun lent (lit< tt) refl) refl))
+stored = store.saves (store.flushed (store.stepped (store.begun lent (lit< tt) (lit< tt) refl) refl))
 
 -- without the flush a power cut may bring back every byte that stood before the step,
 pub lost : Torn cut (lent ∷ []) (afterRun ∷ atStart ∷ []) lent

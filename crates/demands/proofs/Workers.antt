@@ -17,7 +17,7 @@ use Rattle.rules.proofs.StepLaws.{needed}
 use Rattle.demands.proofs.Course.{OnCourse, starts-on-course, starts-at-none, within, uncut-whole}
 use Rattle.demands.proofs.Held.{Held, held-anew, ends-as-uncut, goes-as-uncut}
 use Rattle.demands.proofs.Partly.{held-partly}
-use Rattle.demands.proofs.TakeOver.{readable}
+use Rattle.demands.proofs.TakeOver.{taken-so}
 
 -- each of some
 abbrev pub All : {A : Type 0} → (A → Type 0) → List A → Type 0
@@ -48,46 +48,50 @@ pub record Working (m : List ℕ) (w : ℕ) (o₀ o : List ℕ) (s : State) : Ty
   pub idle : length o₀ < needed s → bytesBefore s ≡ 0
 
 -- a crew: each of its workers, and any that starts now
-record Manned (m : List ℕ) (w : ℕ) (o₀ : List ℕ) (ss : List State) (o : List ℕ) : Type 0 where
+record Manned (m : List ℕ) (number w : ℕ) (o₀ : List ℕ) (ss : List State) (o : List ℕ) : Type 0 where
   small : length m < 2 ^ 64
+  fits : number < 2 ^ 64
   welcome : (t : State) → OnCourse m w t → bytesBefore t ≡ 0 → Held m w o₀ o t
   each : All (Working m w o₀ o) ss
 
-module _ (m : List ℕ) (w : ℕ) (o₀ : List ℕ) where
-  manned-nobody : length m < 2 ^ 64 → Manned m w o₀ [] o₀
-  manned-nobody small =
+module _ (m : List ℕ) (number w : ℕ) (o₀ : List ℕ) where
+  manned-nobody : length m < 2 ^ 64 → number < 2 ^ 64 → Manned m number w o₀ [] o₀
+  manned-nobody small fits =
       record {
         small = small;
+        fits = fits;
         welcome = λ t on none. held-anew m w o₀ t (rw none);
         each = tt;
       }
 
-  manned-joins : (s : State) (ss : List State) (o : List ℕ) → Manned m w o₀ ss o → starting m w ≡ started s → Manned m w o₀ (s ∷ ss) o
+  manned-joins : (s : State) (ss : List State) (o : List ℕ) → Manned m number w o₀ ss o → starting m number w ≡ started s → Manned m number w o₀ (s ∷ ss) o
   manned-joins s ss o crew e =
-      let on = starts-on-course m w s (crew .small) e in
-      let none = starts-at-none m w s e in
+      let on = starts-on-course m w number s (crew .small) (crew .fits) e in
+      let none = starts-at-none m w number s e in
       record {
         small = crew .small;
+        fits = crew .fits;
         welcome = crew .welcome;
         each = (record { on-course = on; holds = crew .welcome s on none; idle = λ few. none }, crew .each);
       }
 
-  module _ (left right : List State) (s : State) (o : List ℕ) (crew : Manned m w o₀ (left ++ (s ∷ right)) o) where
+  module _ (left right : List State) (s : State) (o : List ℕ) (crew : Manned m number w o₀ (left ++ (s ∷ right)) o) where
     worker : Working m w o₀ o s
     worker = all-at (Working m w o₀ o) left right s (crew .each)
 
-    manned-takes-up : (s′ : State) → readRecord (recordBytes s) ≡ started s′ → Manned m w o₀ (s′ ∷ (left ++ (s ∷ right))) o
+    manned-takes-up : (s′ : State) → readRecord number (recordBytes s) ≡ started s′ → Manned m number w o₀ (s′ ∷ (left ++ (s ∷ right))) o
     manned-takes-up s′ e =
-        let same : s ≡ s′ = cc (readable s (worker .on-course)) in
-        record { small = crew .small; welcome = crew .welcome; each = (rw (← same) worker, crew .each) }
+        let same = taken-so s (worker .on-course) e .1 in
+        record { small = crew .small; fits = crew .fits; welcome = crew .welcome; each = (rw (← same) worker, crew .each) }
 
     manned-steps :
         (s′ : State) (bytes : List ℕ) → step s m (length o) ≡ more s′ bytes
-        → Manned m w o₀ (left ++ (s′ ∷ right)) (steppedOver s bytes o)
+        → Manned m number w o₀ (left ++ (s′ ∷ right)) (steppedOver s bytes o)
     manned-steps s′ bytes e =
         let next = goes-as-uncut m w o₀ o s (worker .on-course) (worker .holds) s′ bytes e in
         record {
           small = crew .small;
+          fits = crew .fits;
           welcome = λ t on none. next .others t on (crew .welcome t on none);
           each =
               all-but (Working m w o₀ (steppedOver s bytes o)) left right s s′
@@ -99,13 +103,14 @@ module _ (m : List ℕ) (w : ℕ) (o₀ : List ℕ) where
 
     manned-stops-inside :
         (s′ : State) (bytes o′ : List ℕ) → step s m (length o) ≡ more s′ bytes → Partly o (steppedOver s bytes o) o′
-        → Manned m w o₀ (left ++ (s ∷ right)) o′
+        → Manned m number w o₀ (left ++ (s ∷ right)) o′
     manned-stops-inside s′ bytes o′ e partly =
         let next = goes-as-uncut m w o₀ o s (worker .on-course) (worker .holds) s′ bytes e in
         let keeps : (t : State) → OnCourse m w t → Held m w o₀ o t → Held m w o₀ o′ t =
         λ t on held. held-partly o (steppedOver s bytes o) o′ partly m w o₀ t held (next .others t on held) in
         record {
           small = crew .small;
+          fits = crew .fits;
           welcome = λ t on none. keeps t on (crew .welcome t on none);
           each =
               all-map (Working m w o₀ o) (Working m w o₀ o′)
@@ -113,13 +118,13 @@ module _ (m : List ℕ) (w : ℕ) (o₀ : List ℕ) where
               (left ++ (s ∷ right)) (crew .each);
         }
 
-manned : {m : List ℕ} {w : ℕ} {o₀ : List ℕ} {ss : List State} {o : List ℕ} → Crew m w o₀ ss o → Manned m w o₀ ss o
-manned {m} {w} {o₀} (nobody small) = manned-nobody m w o₀ small
-manned {m} {w} {o₀} (joins {s} {ss} {o} crew e) = manned-joins m w o₀ s ss o (manned crew) e
-manned {m} {w} {o₀} (takes-up left right s {s′} {o} crew e) = manned-takes-up m w o₀ left right s o (manned crew) s′ e
-manned {m} {w} {o₀} (steps left right s {s′} {o} {bytes} crew e) = manned-steps m w o₀ left right s o (manned crew) s′ bytes e
-manned {m} {w} {o₀} (stops-inside left right s {s′} {o} {bytes} o′ crew e partly) =
-    manned-stops-inside m w o₀ left right s o (manned crew) s′ bytes o′ e partly
+manned : {m : List ℕ} {number w : ℕ} {o₀ : List ℕ} {ss : List State} {o : List ℕ} → Crew m number w o₀ ss o → Manned m number w o₀ ss o
+manned {m} {number} {w} {o₀} (nobody small fits) = manned-nobody m number w o₀ small fits
+manned {m} {number} {w} {o₀} (joins {s} {ss} {o} crew e) = manned-joins m number w o₀ s ss o (manned crew) e
+manned {m} {number} {w} {o₀} (takes-up left right s {s′} {o} crew e) = manned-takes-up m number w o₀ left right s o (manned crew) s′ e
+manned {m} {number} {w} {o₀} (steps left right s {s′} {o} {bytes} crew e) = manned-steps m number w o₀ left right s o (manned crew) s′ bytes e
+manned {m} {number} {w} {o₀} (stops-inside left right s {s′} {o} {bytes} o′ crew e partly) =
+    manned-stops-inside m number w o₀ left right s o (manned crew) s′ bytes o′ e partly
 
 -- what the uncut decode writes, with room and without
 reaches-uncut :
@@ -152,14 +157,14 @@ undisturbed m w o₀ o s a =
 -- in every order of the workers' steps, each worker finds the uncut decode's bytes before its pixel, and ends as the
 -- uncut decode
 pub workers :
-    {m : List ℕ} {w : ℕ} {o₀ o : List ℕ} (left right : List State) (s : State) → Crew m w o₀ (left ++ (s ∷ right)) o
+    {m : List ℕ} {number w : ℕ} {o₀ o : List ℕ} (left right : List State) (s : State) → Crew m number w o₀ (left ++ (s ∷ right)) o
     → Undisturbed m w o₀ s o
-workers {m} {w} {o₀} {o} left right s crew = undisturbed m w o₀ o s (worker m w o₀ left right s o (manned crew))
+workers {m} {number} {w} {o₀} {o} left right s crew = undisturbed m w o₀ o s (worker m number w o₀ left right s o (manned crew))
 
 -- once a worker has ended, nothing that the others do changes a byte
 pub after-an-end :
-    {m : List ℕ} {w : ℕ} {o₀ o o′ : List ℕ} (left right left′ right′ : List State) (s : State) (answer : Answer)
-    → Crew m w o₀ (left ++ (s ∷ right)) o → step s m (length o) ≡ end answer → Crew m w o₀ (left′ ++ (s ∷ right′)) o′ → o′ ≡ o
+    {m : List ℕ} {number w : ℕ} {o₀ o o′ : List ℕ} (left right left′ right′ : List State) (s : State) (answer : Answer)
+    → Crew m number w o₀ (left ++ (s ∷ right)) o → step s m (length o) ≡ end answer → Crew m number w o₀ (left′ ++ (s ∷ right′)) o′ → o′ ≡ o
 after-an-end {m} left right left′ right′ s answer crew e later =
     let now = workers left right s crew in
     let then = workers left′ right′ s later in

@@ -23,28 +23,32 @@ pub record Torn (o : List ℕ) (since : List (List ℕ)) (saved : List State) (o
   pub same-length : length o′ ≡ length o
   pub each : (i : ℕ) → Shown (o ∷ since) i (getD o′ i 0) ⊎ ((r : State) → List·Memᴰ r saved → bytesBefore r ≤ i)
 
--- A history of message m at wanted w over a store: the state; the output that the store shows; the output as the last
--- take-up, or the start, found it;
--- the outputs shown before, back to the last flush; the state at that flush, which the worker remembers; the states
--- whose records are saved for good.
-pub data Stored (m : List ℕ) (w : ℕ) : State → List ℕ → List ℕ → List (List ℕ) → State → List State → Type 0 where
+-- A history of message m under its number, at wanted w, over a store: the state; the output that the store shows; the
+-- output as the last take-up, or the start, found it; the outputs shown before, back to the last flush; the state at
+-- that flush, which the worker remembers; the states whose records are saved for good.
+pub data Stored (m :
+    List ℕ) (number w : ℕ) : State → List ℕ → List ℕ → List (List ℕ) → State → List State → Type 0 where
   -- a start on any output, which lasts; to start anew needs no byte of it, so the start's record counts as saved
   begun :
-      {s : State} (o : List ℕ) → length m < 2 ^ 64 → starting m w ≡ started s → Stored m w s o o [] s (s ∷ [])
+      {s : State} (o : List ℕ) → length m < 2 ^ 64 → number < 2 ^ 64 → starting m number w ≡ started s
+      → Stored m number w s o o [] s (s ∷ [])
   -- a step that goes on: what the store showed before may come back
   stepped :
-      {s s′ f : State} {o b bytes : List ℕ} {since : List (List ℕ)} {saved : List State} → Stored m w s o b since f saved
-      → step s m (length o) ≡ more s′ bytes → Stored m w s′ (steppedOver s bytes o) b (o ∷ since) f saved
+      {s s′ f : State} {o b bytes : List ℕ} {since : List (List ℕ)} {saved : List State}
+      → Stored m number w s o b since f saved
+      → step s m (length o) ≡ more s′ bytes → Stored m number w s′ (steppedOver s bytes o) b (o ∷ since) f saved
   -- a flush: the output lasts as it is
   flushed :
-      {s f : State} {o b : List ℕ} {since : List (List ℕ)} {saved : List State} → Stored m w s o b since f saved
-      → Stored m w s o b [] s saved
+      {s f : State} {o b : List ℕ} {since : List (List ℕ)} {saved : List State} → Stored m number w s o b since f saved
+      → Stored m number w s o b [] s saved
   -- a record is saved, whole or not at all, of the state at the last flush and of no later one
   saves :
-      {s f : State} {o b : List ℕ} {since : List (List ℕ)} {saved : List State} → Stored m w s o b since f saved
-      → Stored m w s o b since f (f ∷ saved)
+      {s f : State} {o b : List ℕ} {since : List (List ℕ)} {saved : List State} → Stored m number w s o b since f saved
+      → Stored m number w s o b since f (f ∷ saved)
   -- a crash, and a take-up of any record ever saved on what it left; no flush has made that last
   taken-up :
-      {s s′ f : State} {o b : List ℕ} {since : List (List ℕ)} {saved : List State} → Stored m w s o b since f saved
-      → (r : State) → List·Memᴰ r saved → (o′ : List ℕ) → Torn o since saved o′ → readRecord (recordBytes r) ≡ started s′
-      → Stored m w s′ o′ o′ (o ∷ since) s′ saved
+      {s s′ f : State} {o b : List ℕ} {since : List (List ℕ)} {saved : List State}
+      → Stored m number w s o b since f saved
+      → (r : State) → List·Memᴰ r saved → (o′ : List ℕ) → Torn o since saved o′
+      → readRecord number (recordBytes r) ≡ started s′
+      → Stored m number w s′ o′ o′ (o ∷ since) s′ saved

@@ -1,5 +1,6 @@
 -- The demands as definitions: what the theorems of proofs/ say.
 pub mod TakeOver
+pub mod Broker
 pub mod Workers
 pub mod Inside
 pub mod Document

@@ -18,27 +18,32 @@ pub record Partly (o new o′ : List ℕ) : Type 0 where
   pub same-length : length o′ ≡ length o
   pub each : (i : ℕ) → (getD o′ i 0 ≡ getD o i 0) ⊎ (getD o′ i 0 ≡ getD new i 0)
 
--- The workers on message m at wanted w, and the output now, which was o₀ at first. A worker that stops, or dies,
--- stays in the list and steps no more; one that takes up an old record was in the list since that record was written,
--- and stood still.
-pub data Crew (m : List ℕ) (w : ℕ) (o₀ : List ℕ) : List State → List ℕ → Type 0 where
-  -- no worker yet; the message's length fits 64 bits, which the type of a slice says by itself: nothing more is asked
-  nobody : length m < 2 ^ 64 → Crew m w o₀ [] o₀
+-- The workers on message m under its number, at wanted w, and the output now, which was o₀ at first. A worker that
+-- stops, or dies, stays in the list and steps no more; one that takes up an old record was in the list since that
+-- record was written, and stood still.
+pub data Crew (m : List ℕ) (number w : ℕ) (o₀ : List ℕ) : List State → List ℕ → Type 0 where
+  -- no worker yet; the message's length and its number fit 64 bits, which their types say by themselves: nothing more
+  -- is asked
+  nobody : length m < 2 ^ 64 → number < 2 ^ 64 → Crew m number w o₀ [] o₀
   -- one more starts
-  joins : {s : State} {ss : List State} {o : List ℕ} → Crew m w o₀ ss o → starting m w ≡ started s → Crew m w o₀ (s ∷ ss) o
+  joins :
+      {s : State} {ss : List State} {o : List ℕ} → Crew m number w o₀ ss o → starting m number w ≡ started s
+      → Crew m number w o₀ (s ∷ ss) o
   -- one more takes up the record of a worker s, which stays
   takes-up :
-      (left right : List State) (s : State) {s′ : State} {o : List ℕ} → Crew m w o₀ (left ++ (s ∷ right)) o
-      → readRecord (recordBytes s) ≡ started s′ → Crew m w o₀ (s′ ∷ (left ++ (s ∷ right))) o
+      (left right : List State) (s : State) {s′ : State} {o : List ℕ} → Crew m number w o₀ (left ++ (s ∷ right)) o
+      → readRecord number (recordBytes s) ≡ started s′ → Crew m number w o₀ (s′ ∷ (left ++ (s ∷ right))) o
   -- one of them makes a step
   steps :
-      (left right : List State) (s : State) {s′ : State} {o bytes : List ℕ} → Crew m w o₀ (left ++ (s ∷ right)) o
-      → step s m (length o) ≡ more s′ bytes → Crew m w o₀ (left ++ (s′ ∷ right)) (steppedOver s bytes o)
+      (left right : List State) (s : State) {s′ : State} {o bytes : List ℕ} → Crew m number w o₀ (left ++ (s ∷ right)) o
+      → step s m (length o) ≡ more s′ bytes → Crew m number w o₀ (left ++ (s′ ∷ right)) (steppedOver s bytes o)
   -- one of them stops inside a step and stands where it stood; it may make the step again, so steps may mix byte by
   -- byte
   stops-inside :
-      (left right : List State) (s : State) {s′ : State} {o bytes : List ℕ} (o′ : List ℕ) → Crew m w o₀ (left ++ (s ∷ right)) o
-      → step s m (length o) ≡ more s′ bytes → Partly o (steppedOver s bytes o) o′ → Crew m w o₀ (left ++ (s ∷ right)) o′
+      (left right : List State) (s : State) {s′ : State} {o bytes : List ℕ} (o′ : List ℕ)
+      → Crew m number w o₀ (left ++ (s ∷ right)) o
+      → step s m (length o) ≡ more s′ bytes → Partly o (steppedOver s bytes o) o′
+      → Crew m number w o₀ (left ++ (s ∷ right)) o′
 
 -- what holds of each worker s whenever the output is o
 pub record Undisturbed (m : List ℕ) (w : ℕ) (o₀ : List ℕ) (s : State) (o : List ℕ) : Type 0 where

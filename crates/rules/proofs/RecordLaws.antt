@@ -2,15 +2,16 @@
 -- 300 bytes.
 -- Assumes nothing.
 use mathlib.Core.Path.{_≡_, refl, sym, _∙_, ap, ap₂}
-use mathlib.Core.Bool.{Bool, true, false, _||_}
+use mathlib.Core.Bool.{Bool, true, false, cond, _||_}
 use mathlib.Core.List.{List, [], _∷_, _++_, append-assoc, append-nil}
 use Prim.Native.Nat.{ℕ, suc, _+_, _-_, _*_, _^_, _≤_, _<_}
 use native.Mathlib.Omega.{arith}
-use borrow.Author.Tests.{eqb-true, eq-eqb, le-ltb}
+use borrow.Author.Tests.{eqb-true, eq-eqb, ne-eqb, le-ltb}
 use lib.Dec.{T, eqb, eqb→eq, leb→le}
 use lib.ListN.{length, getD, drop, length-append, length-drop}
 use lib.Seq.{drop-at}
 use Rattle.pixel.specs.declared.error.Error.{Error}
+use Rattle.pixel.specs.declared.error.Error.the-variants.{OtherMessage}
 use Rattle.pixel.specs.declared.Pixel.{Pixel}
 use Rattle.pixel.specs.declared.types.ChannelsRead.the-variants as channels-read
 use Rattle.pixel.specs.declared.types.Channels.{Channels}
@@ -212,6 +213,22 @@ module _ (s : State) (typed : Typed s) (well : T (wellFormed s)) where
   pub record-read-back : readRecord (s .number) (recordBytes s) ≡ started s
   unfolding acceptNumber
   record-read-back = record-read (s .number) ∙ rw (eq-eqb (s .number) (s .number) refl)
+
+  -- under another number it is 12, with its own number
+  pub record-of-another : (expected : ℕ) → (s .number ≡ expected → ⊥) → readRecord expected (recordBytes s) ≡ notStarted (OtherMessage (s .number))
+  unfolding acceptNumber
+  record-of-another expected other = record-read expected ∙ rw (ne-eqb (s .number) expected other)
+
+  -- where it is read, it is read under its number, and gives the same state
+  pub record-taken : (expected : ℕ) (s′ : State) → readRecord expected (recordBytes s) ≡ started s′ → (s .number ≡ expected) × (s ≡ s′)
+  unfolding acceptNumber
+  record-taken expected s′ e = go (eqb (s .number) expected) refl (sym (record-read expected) ∙ e)
+    where
+      go :
+          (same : Bool) → eqb (s .number) expected ≡ same → cond same (started s) (notStarted (OtherMessage (s .number))) ≡ started s′
+          → (s .number ≡ expected) × (s ≡ s′)
+      go true is p = (eqb-true (s .number) expected is, cc)
+      go false is p = absurd (refused-is-no-start p)
 
   -- a record is 278 to 300 bytes
   pub record-length : (278 ≤ length (recordBytes s)) × (length (recordBytes s) ≤ 300)

@@ -47,6 +47,10 @@ wrongMagic channels colorspace = replicate 12 0 ++ (channels ∷ colorspace ∷ 
 abbrev startRecord : List ℕ
 startRecord = recordBytes (stateFrom 1 1 Rgb 7 3)
 
+-- the same without its number, and with this byte position, pixel position and alpha of its current pixel
+abbrev unnumbered : ℕ → ℕ → ℕ → List ℕ
+unnumbered at pixel alpha = take 15 startRecord ++ (at ∷ pixel ∷ (rgba 0 0 0 alpha ++ replicate 256 0))
+
 -- the slots that hold A in slot 33 and B in slot 53: 33, 19 and 10 empty ones stand before, between and after
 abbrev slotsOfAB : List ℕ
 slotsOfAB = replicate 132 0 ++ (rgba 100 0 0 255 ++ (replicate 76 0 ++ (rgba 0 0 0 255 ++ replicate 40 0)))
@@ -548,9 +552,9 @@ recordRows =
     -- cut short comes before byte position 13
     ∷ readsBack 7 (take 15 startRecord ++ (0x0d ∷ 0x00 ∷ replicate 259 0)) (refusal 1 [])
     -- a record from before it had a number ends too early: 1
-    ∷ readsBack 7 (take 277 startRecord) (refusal 1 [])
+    ∷ readsBack 7 (unnumbered 14 0 255) (refusal 1 [])
     -- also where its byte position is 13: the number comes before the state's other faults
-    ∷ readsBack 7 (take 15 startRecord ++ (0x0d ∷ 0x00 ∷ (rgba 0 0 0 255 ++ replicate 256 0))) (refusal 1 [])
+    ∷ readsBack 7 (unnumbered 13 0 255) (refusal 1 [])
     -- the number cut short: 1
     ∷ readsBack 7 (take 277 startRecord ++ (0x87 ∷ [])) (refusal 1 [])
     -- not shortest: 9
@@ -558,11 +562,11 @@ recordRows =
     -- above 2^64-1: 9
     ∷ readsBack largest (take 277 startRecord ++ (replicate 9 0xff ++ (0x02 ∷ []))) (refusal 9 [])
     -- after the number, byte position 13 is 9, before another number
-    ∷ readsBack 8 (take 15 startRecord ++ (0x0d ∷ 0x00 ∷ (rgba 0 0 0 255 ++ (replicate 256 0 ++ (7 ∷ []))))) (refusal 9 [])
+    ∷ readsBack 8 (unnumbered 13 0 255 ++ (7 ∷ [])) (refusal 9 [])
     -- so is pixel position 2 of 1
-    ∷ readsBack 8 (take 15 startRecord ++ (0x0e ∷ 0x02 ∷ (rgba 0 0 0 255 ++ (replicate 256 0 ++ (7 ∷ []))))) (refusal 9 [])
+    ∷ readsBack 8 (unnumbered 14 2 255 ++ (7 ∷ [])) (refusal 9 [])
     -- and a current pixel whose fourth byte is 254, with wanted 3
-    ∷ readsBack 8 (take 15 startRecord ++ (0x0e ∷ 0x00 ∷ (rgba 0 0 0 254 ++ (replicate 256 0 ++ (7 ∷ []))))) (refusal 9 [])
+    ∷ readsBack 8 (unnumbered 14 0 254 ++ (7 ∷ [])) (refusal 9 [])
     -- extra bytes: 9, before another number
     ∷ readsBack 8 (startRecord ++ (0 ∷ [])) (refusal 9 [])
     -- extra bytes with the number expected

@@ -99,7 +99,8 @@ readPositions expected header (channels-read.Refused e) bytes = notStarted e
 readPositions expected header (channels-read.Ok channels) bytes =
     afterNumber bytes (readNumber bytes)
     (λ at rest.
-    afterNumber rest (readNumber rest) (λ pixel rest′. readSlots expected header (channelsNumber channels) at pixel rest′))
+    afterNumber rest (readNumber rest)
+    (λ pixel rest′. readSlots expected header (channelsNumber channels) at pixel rest′))
 
 -- after the header, with its refusals: wanted
 unfoldable pub readWanted : ℕ → HeaderRead → List ℕ → Started

@@ -1,0 +1,41 @@
+-- A checkpoint in the hands of any worker, proved: under its own number it is one of the worker's own message, and under
+-- another it is refused.
+-- Assumes nothing.
+use mathlib.Core.List.{List}
+use mathlib.Core.Path.{_≡_, sym, _∙_}
+use Prim.Native.Nat.{ℕ}
+use lib.ListN.{take}
+use Rattle.pixel.specs.declared.error.Error.the-variants.{OtherMessage}
+use Rattle.rules.specs.Step.{State, started, notStarted, running}
+use Rattle.rules.specs.Record.{recordBytes, readRecord}
+use Rattle.rules.proofs.RecordLaws.{record-of-another}
+use Rattle.demands.specs.TakeOver.{bytesBefore, Life, taken-up, stepsLeft, EndsAsUncut}
+use Rattle.demands.specs.Broker.{Broker, AnyCheckpoint}
+use Rattle.demands.proofs.TakeOver.{taken-so, lived, take-over}
+
+module _ (broker : Broker) {s : State} {o : List ℕ} (c : AnyCheckpoint broker s o) where
+  -- a worker to which m was delivered reads it under m's number: then it is a checkpoint of m
+  pub any-checkpoint :
+      {m : List ℕ} {number : ℕ} {s′ : State} → broker .delivers number m → (o′ : List ℕ)
+      → take (bytesBefore s) o′ ≡ take (bytesBefore s) o → readRecord number (recordBytes s) ≡ started s′
+      → Life m number (c .wanted) s′ o′ o′
+  any-checkpoint {m} {number} {s′} delivered o′ agrees reads =
+      let l = lived (c .history) in
+      let same-number : c .number ≡ number = sym (l .under) ∙ taken-so s (l .on-course) reads .0 in
+      let same-bytes : c .message ≡ m = broker .equal-bytes number (c .message) m (rw same-number at (c .delivered)) delivered in
+      taken-up (rw (same-number, same-bytes) at (c .history)) o′ agrees reads
+
+  -- so it ends as the uncut decode of m
+  pub any-checkpoint-ends :
+      {m : List ℕ} {number : ℕ} {s′ : State} → broker .delivers number m → (o′ : List ℕ)
+      → take (bytesBefore s) o′ ≡ take (bytesBefore s) o → readRecord number (recordBytes s) ≡ started s′
+      → EndsAsUncut m (c .wanted) o′ (running m (stepsLeft s′) s′ o′)
+  any-checkpoint-ends delivered o′ agrees reads = take-over (any-checkpoint delivered o′ agrees reads)
+
+  -- a worker on another message gets 12, with the number of the message that it is of
+  pub another-message :
+      (number : ℕ) → (c .number ≡ number → ⊥) → readRecord number (recordBytes s) ≡ notStarted (OtherMessage (c .number))
+  another-message number other =
+      let l = lived (c .history) in
+      rw (← l .under)
+      (record-of-another s (l .on-course .typed) (l .on-course .well) number (λ same. other (sym (l .under) ∙ same)))
