@@ -77,6 +77,12 @@ pub reached-readable :
     {m : List ℕ} {number w : ℕ} {s : State} {o b : List ℕ} → Life m number w s o b → readRecord number (recordBytes s) ≡ started s
 reached-readable {s = s} life = let l = lived life in readable s (l .on-course) (l .under)
 
+-- and nothing else, under whatever number it is read
+pub reached-taken :
+    {m : List ℕ} {number w : ℕ} {s s′ : State} {o b : List ℕ} → Life m number w s o b
+    → (other : ℕ) → readRecord other (recordBytes s) ≡ started s′ → s ≡ s′
+reached-taken {s = s} life other reads = taken-so s (lived life .on-course) reads .1
+
 -- a run of more steps than pixels are left ends, as the uncut decode
 ends-within :
     (m : List ℕ) (w n : ℕ) (s : State) (o b : List ℕ) → OnCourse m w s → Held m w b o s

@@ -7,7 +7,7 @@ use native.Mathlib.Omega.{arith}
 use borrow.Author.Tests.{le-ltb}
 use lib.ListN.{length, take}
 use Rattle.pixel.specs.declared.error.Error.{Error}
-use Rattle.pixel.specs.declared.error.Error.the-variants.{UnexpectedBufferEnd, InvalidChannels, InvalidColorSpace, InvalidMagic, InvalidImageDimensions, InvalidImageLength, OutputBufferTooSmall, InvalidPadding, BadState, RunPastImage, BytesAfterMarker, InvalidHour, InvalidCellCount, TotalTooLarge}
+use Rattle.pixel.specs.declared.error.Error.the-variants.{UnexpectedBufferEnd, InvalidChannels, InvalidColorSpace, InvalidMagic, InvalidImageDimensions, InvalidImageLength, OutputBufferTooSmall, InvalidPadding, BadState, RunPastImage, BytesAfterMarker, OtherMessage, InvalidHour, InvalidCellCount, TotalTooLarge}
 use Rattle.pixel.specs.declared.types.ChannelsRead.{ChannelsRead}
 use Rattle.pixel.specs.declared.types.ChannelsRead.the-variants as channels-read
 use Rattle.pixel.specs.Bytes.{AllBytes}
@@ -26,31 +26,33 @@ use Rattle.rules.specs.Step.{State, wellFormed, Started, started, notStarted, s
 use Rattle.rules.specs.Record.{Recorded, recorded, notRecorded, recording, recordedOver, recordBytes, readRecord}
 use Rattle.rules.proofs.RecordLaws.{record-length}
 use Rattle.rules.proofs.RecordAgainLaws.{record-written-back, record-well-formed, record-short}
-use Rattle.demands.specs.TakeOver.{Life, begun, taken-up, stepsLeft}
+use Rattle.demands.specs.TakeOver.{bytesBefore, Life, begun, taken-up, stepsLeft}
+use Rattle.demands.specs.Broker.{Broker, AnyCheckpoint}
 use Rattle.demands.specs.Inside.{StoppedInside}
-use Rattle.demands.proofs.TakeOver.{reached-readable, reached-well-formed, reached-adds-up, enough-steps, run-lives, run-ends-as-uncut}
+use Rattle.demands.proofs.TakeOver.{reached-readable, reached-taken, reached-well-formed, reached-adds-up, enough-steps, run-lives, run-ends-as-uncut}
+use Rattle.demands.proofs.Broker.{any-checkpoint, another-message}
 use Rattle.demands.proofs.Steps.{run-keeps-before, run-further}
 use Rattle.demands.proofs.Inside.{inside-keeps-before}
 use Rattle.demands.proofs.Written.{written-record}
 use Rattle.qoi.specs.Hosted.{startedFigures, startedOver, recordedFigures, ranFigures, ranNext, hostFigures, hostOut, hostNext}
-use Rattle.promises.specs.Hosts.{says, returned, recordRoom, Host, starts, runs, takes-over, EndsAsDecode, TakesOver, Starts, TestsRecord}
+use Rattle.promises.specs.Hosts.{says, returned, recordRoom, Host, starts, runs, takes-over, EndsAsDecode, TakesOver, Starts, TestsRecord, AnyRecord, RefusesAnother}
 
 -- what refuses a start refuses the decode
 refused-start :
-    (m : List ℕ) (w room : ℕ) (e : Error) → starting m w ≡ notStarted e → decoding m w room ≡ silent (refused e)
+    (m : List ℕ) (number w room : ℕ) (e : Error) → starting m number w ≡ notStarted e → decoding m w room ≡ silent (refused e)
 unfolding starting startHeader startWanted wholeReading afterHeader afterWanted
-refused-start m w room e is = heading (headerOf m) is
+refused-start m number w room e is = heading (headerOf m) is
   where
     told : (x : Error) → notStarted x ≡ notStarted e → silent (refused x) ≡ silent (refused e)
     told x is = let same : x ≡ e = cc in ap (λ (y : Error). silent (refused y)) same
 
     wanting :
-        (header : Header) (c : ChannelsRead) → startWanted header c ≡ notStarted e
+        (header : Header) (c : ChannelsRead) → startWanted header number c ≡ notStarted e
         → afterWanted decoder m room header c ≡ silent (refused e)
     wanting header (channels-read.Refused x) is = told x is
     wanting header (channels-read.Ok c) is = absurd (let z : _≡_ {A = ℕ} 0 1 = cc in omega arith)
 
-    heading : (r : HeaderRead) → startHeader w r ≡ notStarted e → afterHeader decoder m room w r ≡ silent (refused e)
+    heading : (r : HeaderRead) → startHeader number w r ≡ notStarted e → afterHeader decoder m room w r ≡ silent (refused e)
     heading (header-read.Refused x) is = told x is
     heading (header-read.Ok header) is = wanting header (channelsFrom w) is
 
@@ -67,68 +69,70 @@ number-small InvalidPadding = (omega arith, omega arith)
 number-small BadState = (omega arith, omega arith)
 number-small RunPastImage = (omega arith, omega arith)
 number-small BytesAfterMarker = (omega arith, omega arith)
+number-small (OtherMessage number) = (omega arith, omega arith)
 number-small (InvalidHour hour) = (omega arith, omega arith)
 number-small (InvalidCellCount pixels cells) = (omega arith, omega arith)
 number-small (TotalTooLarge cell) = (omega arith, omega arith)
 
 -- the record in a host's hands is of a history of demand 3
-record Lives (m : List ℕ) (w : ℕ) (r o b : List ℕ) : Type 0 where
+record Lives (m : List ℕ) (number w : ℕ) (r o b : List ℕ) : Type 0 where
   state : State
-  reads : readRecord r ≡ started state
+  is : r ≡ recordBytes state
+  reads : readRecord number r ≡ started state
   fits : length r ≤ recordRoom
-  life : Life m w state o b
+  life : Life m number w state o b
 
-module _ {m : List ℕ} {w : ℕ} {o b : List ℕ} (s : State) (life : Life m w s o b) where
-  -- a record of it has at most 290 bytes
+module _ {m : List ℕ} {number w : ℕ} {o b : List ℕ} (s : State) (life : Life m number w s o b) where
+  -- a record of it has at most 300 bytes
   short : length (recordBytes s) ≤ recordRoom
   short = let well = reached-well-formed life in record-length s (well .1) (well .0) .1
 
-  -- so it fits a part of 290 bytes
+  -- so it fits a part of 300 bytes
   written : (part : List ℕ) → recordRoom ≤ length part → recording s (length part) ≡ recorded (length (recordBytes s))
   unfolding recording
   written part roomy =
       rw (is-true (wellFormed s) (reached-well-formed life .0), le-ltb (length part) (length (recordBytes s)) (omega (arith, short)))
 
   -- and is read back as the state that it was written of
-  kept : (part : List ℕ) (n : ℕ) → recording s (length part) ≡ recorded n → Lives m w (take n (recordedOver s part)) o b
+  kept : (part : List ℕ) (n : ℕ) → recording s (length part) ≡ recorded n → Lives m number w (take n (recordedOver s part)) o b
   kept part n is =
       let same = written-record s part n is in
-      record { state = s; reads = rw same (reached-readable life); fits = rw same short; life = life }
+      record { state = s; is = same; reads = rw same (reached-readable life); fits = rw same short; life = life }
 
 lives-starts :
-    (m : List ℕ) (w : ℕ) (o part : List ℕ) (n : ℕ) → length m < 2 ^ 64 → (v : Started) → starting m w ≡ v
-    → startedFigures v part ≡ says 0 n → Lives m w (take n (startedOver v part)) o o
-lives-starts m w o part n small (notStarted e) is said = let z : numberOf e ≡ 0 = cc in absurd (omega (arith, number-small e .0))
-lives-starts m w o part n small (started s) is said = go (recording s (length part)) refl said
+    (m : List ℕ) (number w : ℕ) (o part : List ℕ) (n : ℕ) → length m < 2 ^ 64 → number < 2 ^ 64 → (v : Started) → starting m number w ≡ v
+    → startedFigures v part ≡ says 0 n → Lives m number w (take n (startedOver v part)) o o
+lives-starts m number w o part n small fits (notStarted e) is said = let z : numberOf e ≡ 0 = cc in absurd (omega (arith, number-small e .0))
+lives-starts m number w o part n small fits (started s) is said = go (recording s (length part)) refl said
   where
-    go : (v : Recorded) → recording s (length part) ≡ v → recordedFigures 0 v ≡ says 0 n → Lives m w (take n (recordedOver s part)) o o
-    go (recorded k) e said = let same : k ≡ n = cc in kept s (begun o small is) part n (e ∙ ap recorded same)
+    go : (v : Recorded) → recording s (length part) ≡ v → recordedFigures 0 v ≡ says 0 n → Lives m number w (take n (recordedOver s part)) o o
+    go (recorded k) e said = let same : k ≡ n = cc in kept s (begun o small fits is) part n (e ∙ ap recorded same)
     go (notRecorded x) e said = let z : numberOf x ≡ 0 = cc in absurd (omega (arith, number-small x .0))
 
-module _ {m : List ℕ} {w : ℕ} {r o b : List ℕ} (l : Lives m w r o b) (steps : ℕ) (next : List ℕ) where
+module _ {m : List ℕ} {number w : ℕ} {r o b : List ℕ} (l : Lives m number w r o b) (steps : ℕ) (next : List ℕ) where
   lives-runs :
-      (n : ℕ) → hostFigures m steps o next (readRecord r) ≡ says 256 n
-      → Lives m w (take n (hostNext m steps o next (readRecord r))) (hostOut m steps o (readRecord r)) b
+      (n : ℕ) → hostFigures m steps o next (readRecord number r) ≡ says 256 n
+      → Lives m number w (take n (hostNext m steps o next (readRecord number r))) (hostOut m steps o (readRecord number r)) b
   lives-runs n said = rw (l .reads) (go (running m steps (l .state) o) refl (rw (l .reads) at said))
     where
       on :
-          (s′ : State) (o′ : List ℕ) → Life m w s′ o′ b → (v : Recorded) → recording s′ (length next) ≡ v → recordedFigures 256 v ≡ says 256 n
-          → Lives m w (take n (recordedOver s′ next)) o′ b
+          (s′ : State) (o′ : List ℕ) → Life m number w s′ o′ b → (v : Recorded) → recording s′ (length next) ≡ v → recordedFigures 256 v ≡ says 256 n
+          → Lives m number w (take n (recordedOver s′ next)) o′ b
       on s′ o′ life (recorded k) e told = let same : k ≡ n = cc in kept s′ life next n (e ∙ ap recorded same)
       on s′ o′ life (notRecorded x) e told = let z : numberOf x ≡ 256 = cc in absurd (omega (arith, number-small x .1))
 
-      go : (v : Ran) → running m steps (l .state) o ≡ v → ranFigures v next ≡ says 256 n → Lives m w (take n (ranNext v next)) (outputOf v) b
+      go : (v : Ran) → running m steps (l .state) o ≡ v → ranFigures v next ≡ says 256 n → Lives m number w (take n (ranNext v next)) (outputOf v) b
       go (going s′ o′) e told = on s′ o′ (run-lives steps (l .life) s′ o′ e) (recording s′ (length next)) refl told
       go (ended (done size used) last left) e told = let z : _≡_ {A = ℕ} 0 256 = cc in absurd (omega arith)
       go (ended (refused x) last left) e told = let z : numberOf x ≡ 256 = cc in absurd (omega (arith, number-small x .1))
 
   nearer-so :
-      (n : ℕ) → hostFigures m steps o next (readRecord r) ≡ says 256 n
-      → (s′ : State) × (readRecord (take n (hostNext m steps o next (readRecord r))) ≡ started s′) × (stepsLeft s′ + steps ≤ stepsLeft (l .state))
+      (n : ℕ) → hostFigures m steps o next (readRecord number r) ≡ says 256 n
+      → (s′ : State) × (readRecord number (take n (hostNext m steps o next (readRecord number r))) ≡ started s′) × (stepsLeft s′ + steps ≤ stepsLeft (l .state))
   nearer-so n said = rw (l .reads) (go (running m steps (l .state) o) refl (rw (l .reads) at said))
     where
       Goal : Ran → Type 0
-      Goal v = (s′ : State) × (readRecord (take n (ranNext v next)) ≡ started s′) × (stepsLeft s′ + steps ≤ stepsLeft (l .state))
+      Goal v = (s′ : State) × (readRecord number (take n (ranNext v next)) ≡ started s′) × (stepsLeft s′ + steps ≤ stepsLeft (l .state))
 
       on :
           (s′ : State) (o′ : List ℕ) → running m steps (l .state) o ≡ going s′ o′ → (v : Recorded) → recording s′ (length next) ≡ v
@@ -137,7 +141,7 @@ module _ {m : List ℕ} {w : ℕ} {r o b : List ℕ} (l : Lives m w r o b) (step
           let same : k ≡ n = cc in
           let life = run-lives steps (l .life) s′ o′ e in
           let further = run-further m steps (l .state) o s′ o′ e in
-          let reads : readRecord (take n (recordedOver s′ next)) ≡ started s′ =
+          let reads : readRecord number (take n (recordedOver s′ next)) ≡ started s′ =
           rw (written-record s′ next n (is ∙ ap recorded same)) (reached-readable life) in
           (s′, reads, omega (arith, further .0, ap pixelCount (further .1), reached-adds-up (l .life), reached-adds-up life))
       on s′ o′ e (notRecorded x) is told = let z : numberOf x ≡ 256 = cc in absurd (omega (arith, number-small x .1))
@@ -148,9 +152,9 @@ module _ {m : List ℕ} {w : ℕ} {r o b : List ℕ} (l : Lives m w r o b) (step
       go (ended (refused x) last left) e told = let z : numberOf x ≡ 256 = cc in absurd (omega (arith, number-small x .1))
 
   ends-so :
-      recordRoom ≤ length next → (returned (hostFigures m steps o next (readRecord r)) ≡ 256 → ⊥)
-      → EndsAsDecode m w b next (hostFigures m steps o next (readRecord r)) (hostOut m steps o (readRecord r))
-      (hostNext m steps o next (readRecord r))
+      recordRoom ≤ length next → (returned (hostFigures m steps o next (readRecord number r)) ≡ 256 → ⊥)
+      → EndsAsDecode m w b next (hostFigures m steps o next (readRecord number r)) (hostOut m steps o (readRecord number r))
+      (hostNext m steps o next (readRecord number r))
   ends-so roomy not-more = rw (l .reads) (go (running m steps (l .state) o) refl (rw (l .reads) at not-more))
     where
       go :
@@ -164,23 +168,23 @@ module _ {m : List ℕ} {w : ℕ} {r o b : List ℕ} (l : Lives m w r o b) (step
           let out : left ≡ writtenOver (decoding m w (length b) .bytes) b = cc in
           record { figures-are = ap answerFigures same; output-is = out; next-stays = refl }
 
-  ends-soon : stepsLeft (l .state) ≤ steps → returned (hostFigures m steps o next (readRecord r)) ≡ 256 → ⊥
+  ends-soon : stepsLeft (l .state) ≤ steps → returned (hostFigures m steps o next (readRecord number r)) ≡ 256 → ⊥
   ends-soon enough = rw (l .reads, enough-steps (l .life) steps enough .1) (other (decoding m w (length b) .answer))
     where
       other : (a : Answer) → returned (answerFigures a) ≡ 256 → ⊥
       other (done size used) e = omega arith
       other (refused x) e = omega (arith, number-small x .1)
 
-lives : {m : List ℕ} {w : ℕ} {r o b : List ℕ} → Host m w r o b → Lives m w r o b
-lives {m} {w} (starts o part n small said) = lives-starts m w o part n small (starting m w) refl said
+lives : {m : List ℕ} {number w : ℕ} {r o b : List ℕ} → Host m number w r o b → Lives m number w r o b
+lives {m} {number} {w} (starts o part n small fits said) = lives-starts m number w o part n small fits (starting m number w) refl said
 lives (runs host steps next n said) = lives-runs (lives host) steps next n said
-lives {m} {w} (takes-over {r} {o} {b} host s is o′ agrees) =
+lives (takes-over host s is o′ agrees) =
     let l = lives host in
     let same : l .state ≡ s = cc (l .reads) in
     let life = rw same at (l .life) in
-    record { state = s; reads = is; fits = l .fits; life = taken-up life o′ agrees (reached-readable life) }
+    record { state = s; is = l .is ∙ ap recordBytes same; reads = is; fits = l .fits; life = taken-up life o′ agrees (reached-readable life) }
 
-takes-over-so : {m : List ℕ} {w : ℕ} {r o b : List ℕ} → Lives m w r o b → TakesOver m w r o b
+takes-over-so : {m : List ℕ} {number w : ℕ} {r o b : List ℕ} → Lives m number w r o b → TakesOver m number w r o b
 takes-over-so l =
     record {
       state = l .state;
@@ -192,54 +196,92 @@ takes-over-so l =
     }
 
 -- whatever a host did, its record is read, and ends as pivotshade_decode within the pixels left plus one steps
-pub host-takes-over : {m : List ℕ} {w : ℕ} {r o b : List ℕ} → Host m w r o b → TakesOver m w r o b
+pub host-takes-over : {m : List ℕ} {number w : ℕ} {r o b : List ℕ} → Host m number w r o b → TakesOver m number w r o b
 host-takes-over host = takes-over-so (lives host)
 
 -- so does the record of every state that a history of demand 3 reaches
-pub life-takes-over : {m : List ℕ} {w : ℕ} {o b : List ℕ} (s : State) → Life m w s o b → TakesOver m w (recordBytes s) o b
-life-takes-over s life = takes-over-so (record { state = s; reads = reached-readable life; fits = short s life; life = life })
+pub life-takes-over : {m : List ℕ} {number w : ℕ} {o b : List ℕ} (s : State) → Life m number w s o b → TakesOver m number w (recordBytes s) o b
+life-takes-over s life = takes-over-so (record { state = s; is = refl; reads = reached-readable life; fits = short s life; life = life })
 
--- a start with 290 bytes for its record returns 0, or refuses as pivotshade_decode
-pub host-starts : (m : List ℕ) (w : ℕ) (part : List ℕ) → length m < 2 ^ 64 → recordRoom ≤ length part → Starts m w part
-host-starts m w part small roomy = record { refuses-as-decode = λ never o. go o (starting m w) refl never }
+-- a start with 300 bytes for its record returns 0, or refuses as pivotshade_decode
+pub host-starts : (m : List ℕ) (number w : ℕ) (part : List ℕ) → length m < 2 ^ 64 → number < 2 ^ 64 → recordRoom ≤ length part → Starts m number w part
+host-starts m number w part small fits roomy = record { refuses-as-decode = λ never o. go o (starting m number w) refl never }
   where
     go :
-        (o : List ℕ) (v : Started) → starting m w ≡ v → (returned (startedFigures v part) ≡ 0 → ⊥)
+        (o : List ℕ) (v : Started) → starting m number w ≡ v → (returned (startedFigures v part) ≡ 0 → ⊥)
         → EndsAsDecode m w o part (startedFigures v part) o (startedOver v part)
     go o (notStarted e) is never =
-        let same = refused-start m w (length o) e is in
+        let same = refused-start m number w (length o) e is in
         record { figures-are = rw same; output-is = rw same; next-stays = refl }
-    go o (started s) is never = absurd (never (rw (written s (begun o small is) part roomy)))
+    go o (started s) is never = absurd (never (rw (written s (begun o small fits is) part roomy)))
 
 -- the record that a run was given may be handed in again on what the run left, whatever it returned
 pub host-left-behind :
-    {m : List ℕ} {w : ℕ} {r o b : List ℕ} → Host m w r o b → (steps : ℕ)
-    → Host m w r (hostOut m steps o (readRecord r)) (hostOut m steps o (readRecord r))
-host-left-behind {m} {w} {r} {o} host steps =
+    {m : List ℕ} {number w : ℕ} {r o b : List ℕ} → Host m number w r o b → (steps : ℕ)
+    → Host m number w r (hostOut m steps o (readRecord number r)) (hostOut m steps o (readRecord number r))
+host-left-behind {m} {number} {w} {r} {o} host steps =
     let l = lives host in
-    takes-over host (l .state) (l .reads) (hostOut m steps o (readRecord r)) (rw (l .reads) (run-keeps-before m steps (l .state) o))
+    takes-over host (l .state) (l .reads) (hostOut m steps o (readRecord number r)) (rw (l .reads) (run-keeps-before m steps (l .state) o))
 
 -- a host that is cut off inside a run, after some steps and with any bytes of the next one written, may hand the same
 -- record in on what it left
 pub host-left-inside :
-    {m : List ℕ} {w : ℕ} {r o b o′ : List ℕ} → Host m w r o b → (s : State) → readRecord r ≡ started s
-    → StoppedInside m s o o′ → Host m w r o′ o′
+    {m : List ℕ} {number w : ℕ} {r o b o′ : List ℕ} → Host m number w r o b → (s : State) → readRecord number r ≡ started s
+    → StoppedInside m s o o′ → Host m number w r o′ o′
 host-left-inside {o′ = o′} host s is stop = takes-over host s is o′ (inside-keeps-before stop)
 
--- a run of 0 steps with 290 bytes for the next record tests the record alone
-pub record-alone : (m r o next : List ℕ) → AllBytes r → recordRoom ≤ length next → TestsRecord m r o next
+-- a run of 0 steps with 300 bytes for the next record tests the record alone
+pub record-alone :
+    (m : List ℕ) (number : ℕ) (r o next : List ℕ) → AllBytes r → recordRoom ≤ length next → TestsRecord m number r o next
 unfolding running recording recordedOver
-record-alone m r o next are roomy =
+record-alone m number r o next are roomy =
     record {
-      output-stays = stays (readRecord r);
+      output-stays = stays (readRecord number r);
       refuses = λ e is. (rw is, rw is);
       accepts = λ s is.
-          let same = record-written-back r are s is in
-          let well = is-true (wellFormed s) (record-well-formed r are s is) in
-          let fits = le-ltb (length next) (length r) (omega (arith, record-short r are s is)) in
+          let same = record-written-back number r are s is in
+          let well = is-true (wellFormed s) (record-well-formed number r are s is) in
+          let fits = le-ltb (length next) (length r) (omega (arith, record-short number r are s is)) in
           (rw (is, well, same, fits), rw (is, well, same, fits));
     }
   where
     stays : (v : Started) → hostOut m 0 o v ≡ o
     stays (started s) = refl
     stays (notStarted e) = refl
+
+module _ (broker : Broker) {r o : List ℕ} (c : AnyRecord broker r o) where
+  -- the checkpoint that a record is
+  checkpoint-of : AnyCheckpoint broker (lives (c .history) .state) o
+  checkpoint-of =
+      record {
+        message = c .message;
+        number = c .number;
+        wanted = c .wanted;
+        found = c .found;
+        delivered = c .delivered;
+        history = lives (c .history) .life;
+      }
+
+  -- a host to which m was delivered hands it in under m's number: if it is read, it ends as pivotshade_decode of m
+  pub host-any-record :
+      {m : List ℕ} {number : ℕ} → broker .delivers number m → (s : State) → readRecord number r ≡ started s
+      → (o′ : List ℕ) → take (bytesBefore s) o′ ≡ take (bytesBefore s) o → TakesOver m number (c .wanted) r o′ o′
+  host-any-record {m} {number} delivered s is o′ agrees =
+      let l = lives (c .history) in
+      let reads = rw (l .is) at is in
+      let same = reached-taken (l .life) number reads in
+      let agrees′ = rw (← same) at agrees in
+      let life = any-checkpoint broker checkpoint-of delivered o′ agrees′ reads in
+      rw (l .is ∙ ap recordBytes same) (life-takes-over s life)
+
+  -- a host on another message gets 12, with the number of the message that it is of, and nothing changes
+  pub host-another-message :
+      (m : List ℕ) (number : ℕ) → (c .number ≡ number → ⊥) → RefusesAnother m number r (c .number)
+  host-another-message m number other =
+      let refuses : readRecord number r ≡ notStarted (OtherMessage (c .number)) =
+      ap (readRecord number) (lives (c .history) .is) ∙ another-message broker checkpoint-of number other in
+      record {
+        figures-are = λ steps o next. rw refuses;
+        output-stays = λ steps o. rw refuses;
+        next-stays = λ steps o next. rw refuses;
+      }

@@ -57,7 +57,7 @@ read-back-brings {picture} {stream} opens back =
       host-brings = λ before figures left fits allowed.
           let is = back .decoder-is (length before) fits in
           (allowed .0 ∙ ap (λ (x : Reading). answerFigures (x .answer)) is, allowed .1 ∙ ap (λ (x : Reading). writtenOver (x .bytes) before) is);
-      taken-over-brings = λ {r} {o} {b} host fits steps next roomy ends.
+      taken-over-brings = λ {number} {r} {o} {b} host fits steps next roomy ends.
           let is = back .decoder-is (length b) fits in
           let end = host-takes-over host .ends-as-decode steps next roomy ends in (
             end .figures-are ∙ ap (λ (x : Reading). answerFigures (x .answer)) is,

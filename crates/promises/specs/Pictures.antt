@@ -36,22 +36,26 @@ pub record Brings (picture message : List ℕ) (width height channels colorspace
   -- its header says so: what pivotshade_header answers
   pub header-says : headerFigures (headerOf message) ≡ 0 ∷ width ∷ height ∷ channels ∷ colorspace ∷ []
   -- the document's reading accepts it, and is the picture
-  pub document-reads : (room : ℕ) → length picture ≤ room → documentReading message channels room ≡ pictureRead picture message
+  pub document-reads :
+      (room : ℕ) → length picture ≤ room → documentReading message channels room ≡ pictureRead picture message
   -- decode answers with all its bytes, and leaves the picture followed by what the output held
   pub decode-brings :
-      (before : List ℕ) (r : Decoded) (after : List ℕ) → length picture ≤ length before → Decodes message channels before r after
+      (before : List ℕ) (r : Decoded) (after : List ℕ) → length picture ≤ length before
+      → Decodes message channels before r after
       → (r ≡ decoded.Done (length picture) (length message)) × (after ≡ writtenOver picture before)
   -- and so does pivotshade_decode
   pub host-brings :
       (before figures left : List ℕ) → length picture ≤ length before → IsDecode message channels before figures left
       → (figures ≡ saysDone (length picture) (length message)) × (left ≡ writtenOver picture before)
-  -- and so does a host that starts, runs and takes over as it likes, whenever a run does not return 256
+  -- and so does a host that starts, runs and takes over as it likes, under any number, whenever a run does not return
+  -- 256
   pub taken-over-brings :
-      {r o b : List ℕ} → Host message channels r o b → length picture ≤ length b
-      → (steps : ℕ) (next : List ℕ) → recordRoom ≤ length next → (returned (hostFigures message steps o next (readRecord r)) ≡ 256 → ⊥)
-      → (hostFigures message steps o next (readRecord r) ≡ saysDone (length picture) (length message))
-      × (hostOut message steps o (readRecord r) ≡ writtenOver picture b)
-      × (hostNext message steps o next (readRecord r) ≡ next)
+      {number : ℕ} {r o b : List ℕ} → Host message number channels r o b → length picture ≤ length b
+      → (steps : ℕ) (next : List ℕ) → recordRoom ≤ length next
+      → (returned (hostFigures message steps o next (readRecord number r)) ≡ 256 → ⊥)
+      → (hostFigures message steps o next (readRecord number r) ≡ saysDone (length picture) (length message))
+      × (hostOut message steps o (readRecord number r) ≡ writtenOver picture b)
+      × (hostNext message steps o next (readRecord number r) ≡ next)
 
 -- (a) for encode: where it is done, the first `size` bytes of its output bring the picture. Each number of the picture
 -- is a byte, as in every slice.
@@ -89,7 +93,8 @@ HostAccepts header picture =
 -- of a 4-channel source excepted: answer and output are the document's
 abbrev pub DecodeIsDocument : List ℕ → Type 0
 DecodeIsDocument m =
-    (header : Header) (before : List ℕ) (r : Decoded) (after : List ℕ) (size used : ℕ) → headerOf m ≡ header-read.Ok header
+    (header : Header) (before : List ℕ) (r : Decoded) (after : List ℕ) (size used : ℕ)
+    → headerOf m ≡ header-read.Ok header
     → T (indexesFilled m) → Decodes m (ownChannels header) before r after → r ≡ decoded.Done size used
     → (answerOf r ≡ documentReading m (ownChannels header) (length before) .answer)
     × (after ≡ writtenOver (documentReading m (ownChannels header) (length before) .bytes) before)
