@@ -43,6 +43,7 @@ typed d vs is =
       width-fits = header .0 .1;
       height-fits = header .1 .0 .1;
       at-fits = fields .1 .1 .0 .1;
+      number-fits = fields .1 .1 .1 .1 .1 .1 .1 .0 .1;
       current-is = pixel-four (d .current) _ (fields .1 .1 .1 .1 .1 .0);
       slots-are = many;
       slot-is = λ i h. slots-four (d .slots) (slots .0) (slots .1 .1) i (omega arith);

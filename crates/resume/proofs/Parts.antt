@@ -36,14 +36,14 @@ module _ (s : State) where
   abbrev pub pixelsOf : List ℕ
   pixelsOf = s .place .current .rgba ++ pixelsBytes (s .place .slots)
 
-  -- header, numbers and pixels are the record
-  pub record-joined : headerBytes (s .header) ++ (numbersOf ++ pixelsOf) ≡ recordBytes s
+  -- header, numbers, pixels and the message's number are the record
+  pub record-joined : headerBytes (s .header) ++ (numbersOf ++ (pixelsOf ++ sevenBits (s .number))) ≡ recordBytes s
   unfolding recordBytes
   record-joined = simp append-assoc
 
   -- the record is as long as its parts
   pub record-parts :
       length (recordBytes s)
-      ≡ 14 + length (sevenBits (s .wanted)) + length (sevenBits (s .place .at)) + length (sevenBits (s .place .pixel)) + length (s .place .current .rgba) + length (pixelsBytes (s .place .slots))
+      ≡ 14 + length (sevenBits (s .wanted)) + length (sevenBits (s .place .at)) + length (sevenBits (s .place .pixel)) + length (s .place .current .rgba) + length (pixelsBytes (s .place .slots)) + length (sevenBits (s .number))
   unfolding recordBytes
   record-parts = simp (length-append, header-length (s .header)) (omega arith)

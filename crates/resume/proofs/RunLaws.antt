@@ -33,29 +33,29 @@ use Rattle.resume.specs.declared.StepAnswer.{StepAnswer}
 use Rattle.resume.specs.Run.{ranBy, endAnswer}
 use Rattle.walk.specs.Walking.{Walk, walking, standing, walkOn, fits, walkingInto}
 
--- a state of a picture at a place, with so many pixels left
-abbrev pub stateLeft : Header → ℕ → Place → ℕ → State
-stateLeft header wanted place left = record { header = header; wanted = wanted; place = place; left = left }
+-- a state of a message's picture at a place, with so many pixels left
+abbrev pub stateLeft : Header → ℕ → ℕ → Place → ℕ → State
+stateLeft header number wanted place left =
+    record { header = header; wanted = wanted; place = place; left = left; number = number }
 
 -- with as many as the picture has from there on
-abbrev pub stateAt : Header → ℕ → Place → State
-stateAt header wanted place = stateLeft header wanted place (pixelCount header - place .pixel)
+abbrev pub stateAt : Header → ℕ → ℕ → Place → State
+stateAt header number wanted place = stateLeft header number wanted place (pixelCount header - place .pixel)
 
 -- which is what a well-formed state is
-at-place : (s : State) → T (wellFormed s) → s ≡ stateAt (s .header) (s .wanted) (s .place)
-at-place s well = ap (stateLeft (s .header) (s .wanted) (s .place)) (omega (arith, adds-up s well))
+at-place : (s : State) → T (wellFormed s) → s ≡ stateAt (s .header) (s .number) (s .wanted) (s .place)
+at-place s well = ap (stateLeft (s .header) (s .number) (s .wanted) (s .place)) (omega (arith, adds-up s well))
 
-module _ (header : Header) (wanted : ℕ) (m : List ℕ) where
-  -- with no step left there is more to do; else the marker test was one
-  unfoldable pub stood : ℕ → State → List ℕ → Ran
-  stood zero s out = going s out
-  stood (suc n) s out = ended (closing (sizeWanted header wanted) m (s .place .at)) s out
+-- with no step left there is more to do; else the marker test was one
+unfoldable pub stood : Header → ℕ → List ℕ → ℕ → State → List ℕ → Ran
+stood header wanted m zero s out = going s out
+stood header wanted m (suc n) s out = ended (closing (sizeWanted header wanted) m (s .place .at)) s out
 
-  -- the run that a walk is
-  abbrev pub ranWalk : Walk → Ran
-  ranWalk w =
-      cond (w .cut) (ended (refused UnexpectedBufferEnd) (stateAt header wanted (w .place)) (w .out))
-      (stood (w .spare) (stateAt header wanted (w .place)) (w .out))
+-- the run that a walk is
+abbrev pub ranWalk : Header → ℕ → ℕ → List ℕ → Walk → Ran
+ranWalk header number wanted m w =
+    cond (w .cut) (ended (refused UnexpectedBufferEnd) (stateAt header number wanted (w .place)) (w .out))
+    (stood header wanted m (w .spare) (stateAt header number wanted (w .place)) (w .out))
 
 -- a well-formed state's pixel is not past the picture
 pub well-within : (s : State) → T (wellFormed s) → s .place .pixel ≤ pixelCount (s .header)
@@ -105,7 +105,7 @@ module _ (m : List ℕ) where
 
     walks-none :
         (n : ℕ) → pixelCount (s .header) ≤ s .place .pixel
-        → running m (suc n) s out ≡ ranWalk (s .header) (s .wanted) m (walking (s .header) (s .wanted) m 0 (suc n) (s .place) out)
+        → running m (suc n) s out ≡ ranWalk (s .header) (s .number) (s .wanted) m (walking (s .header) (s .wanted) m 0 (suc n) (s .place) out)
     unfolding running walking stood stepBy
     walks-none n none =
         rw (steps-by, moved-last decoder (s .header) (s .wanted) m (s .place) none, le-ltb (s .place .pixel) (pixelCount (s .header)) none)
@@ -114,7 +114,7 @@ module _ (m : List ℕ) where
     module _ (missing : s .place .pixel < pixelCount (s .header)) where
       walks-cut :
           (n : ℕ) → chunkAt (decoderReadsRgba (channelsNumber (s .header .channels))) (drop (s .place .at) m) ≡ cut
-          → running m (suc n) s out ≡ ranWalk (s .header) (s .wanted) m (walking (s .header) (s .wanted) m 0 (suc n) (s .place) out)
+          → running m (suc n) s out ≡ ranWalk (s .header) (s .number) (s .wanted) m (walking (s .header) (s .wanted) m 0 (suc n) (s .place) out)
       unfolding running walking stepBy move moveBy
       walks-cut n found =
           rw (steps-by, lt-ltb (s .place .pixel) (pixelCount (s .header)) missing, found)
@@ -145,19 +145,19 @@ module _ (m : List ℕ) where
         walks-chunk :
             (n : ℕ)
             → running m n (nextState s k) (steppedOver s (bytesBy s k) out)
-            ≡ ranWalk (s .header) (s .wanted) m (walking (s .header) (s .wanted) m 0 n (nextState s k .place) (steppedOver s (bytesBy s k) out))
-            → running m (suc n) s out ≡ ranWalk (s .header) (s .wanted) m (walking (s .header) (s .wanted) m 0 (suc n) (s .place) out)
+            ≡ ranWalk (s .header) (s .number) (s .wanted) m (walking (s .header) (s .wanted) m 0 n (nextState s k .place) (steppedOver s (bytesBy s k) out))
+            → running m (suc n) s out ≡ ranWalk (s .header) (s .number) (s .wanted) m (walking (s .header) (s .wanted) m 0 (suc n) (s .place) out)
         unfolding running walking stepBy
         walks-chunk n rest =
             rw (steps-by, moves, lt-ltb (s .place .pixel) (pixelCount (s .header)) missing)
             (rest
-            ∙ ap (λ (p : ℕ). ranWalk (s .header) (s .wanted) m (walking (s .header) (s .wanted) m 0 n (nextState s k .place) (pasted (p * s .wanted) (bytesBy s k) out)))
+            ∙ ap (λ (p : ℕ). ranWalk (s .header) (s .number) (s .wanted) m (walking (s .header) (s .wanted) m 0 n (nextState s k .place) (pasted (p * s .wanted) (bytesBy s k) out)))
             (sym (sub-zero (s .place .pixel))))
 
   -- a run is the walk over the whole output
   pub run-walks :
       (n : ℕ) (s : State) (out : List ℕ) → Sets s out
-      → running m n s out ≡ ranWalk (s .header) (s .wanted) m (walking (s .header) (s .wanted) m 0 n (s .place) out)
+      → running m n s out ≡ ranWalk (s .header) (s .number) (s .wanted) m (walking (s .header) (s .wanted) m 0 n (s .place) out)
   unfolding running walking stood
   run-walks zero s out sets = ap (λ (t : State). going t out) (at-place s (sets .well))
   run-walks (suc n) s out sets = go (run-walks n) (ltb (s .place .pixel) (pixelCount (s .header))) refl
@@ -165,10 +165,10 @@ module _ (m : List ℕ) where
       Shorter : Type 0
       Shorter =
           (s′ : State) (out′ : List ℕ) → Sets s′ out′
-          → running m n s′ out′ ≡ ranWalk (s′ .header) (s′ .wanted) m (walking (s′ .header) (s′ .wanted) m 0 n (s′ .place) out′)
+          → running m n s′ out′ ≡ ranWalk (s′ .header) (s′ .number) (s′ .wanted) m (walking (s′ .header) (s′ .wanted) m 0 n (s′ .place) out′)
 
       Goal : Type 0
-      Goal = running m (suc n) s out ≡ ranWalk (s .header) (s .wanted) m (walking (s .header) (s .wanted) m 0 (suc n) (s .place) out)
+      Goal = running m (suc n) s out ≡ ranWalk (s .header) (s .number) (s .wanted) m (walking (s .header) (s .wanted) m 0 (suc n) (s .place) out)
 
       there : Found
       there = chunkAt (decoderReadsRgba (channelsNumber (s .header .channels))) (drop (s .place .at) m)
@@ -300,14 +300,14 @@ module _ (m : List ℕ) (s : State) (out : List ℕ) (steps : ℕ) (sets : Sets 
   is-walk = walked ∙ rw (passes, wants)
 
   -- the run is the walk into the part, below what stands before it
-  pub run-through : running m steps s out ≡ ranWalk (s .header) (s .wanted) m (beneath before walk)
+  pub run-through : running m steps s out ≡ ranWalk (s .header) (s .number) (s .wanted) m (beneath before walk)
   run-through =
       run-capped m steps s out (sets .well)
       ∙ ap (λ (k : ℕ). running m k s out) (sym few)
       ∙ run-walks m n s out sets
-      ∙ ap (λ (o : List ℕ). ranWalk (s .header) (s .wanted) m (walking (s .header) (s .wanted) m 0 n (s .place) o))
+      ∙ ap (λ (o : List ℕ). ranWalk (s .header) (s .number) (s .wanted) m (walking (s .header) (s .wanted) m 0 n (s .place) o))
       (sym (take-append-drop (s .place .pixel * s .wanted) out) ∙ ap (λ (p : List ℕ). before ++ p) (sym rest))
-      ∙ ap (ranWalk (s .header) (s .wanted) m)
+      ∙ ap (ranWalk (s .header) (s .number) (s .wanted) m)
       (walk-beneath (s .header) (s .wanted) m (s .place .pixel) before (length-take-le (s .place .pixel * s .wanted) out upto) n (s .place) part (omega arith)
       ∙ ap (beneath before) (sym is-walk))
 
@@ -360,8 +360,8 @@ run-past m (suc n) s out some well room past =
     stops = past-move (s .header) (s .wanted) m (s .place) nothing
 
 -- what a run answers, by what its walk into the part of the output from a place on answers
-module _ (header : Header) (wanted : ℕ) (m out : List ℕ) (from : ℕ) (w : Walk) (r : Ran)
-    (ran : r ≡ ranWalk header wanted m (beneath (take from out) w)) (fits : from ≤ length out)
+module _ (header : Header) (number wanted : ℕ) (m out : List ℕ) (from : ℕ) (w : Walk) (r : Ran)
+    (ran : r ≡ ranWalk header number wanted m (beneath (take from out) w)) (fits : from ≤ length out)
     (left : ℕ) (is-left : left ≡ pixelCount header - w .place .pixel) where
   abbrev left-out : List ℕ
   left-out = putMid from (length out - from) out (w .out)
@@ -370,19 +370,19 @@ module _ (header : Header) (wanted : ℕ) (m out : List ℕ) (from : ℕ) (w : W
   back = put-rest out (w .out) from fits
 
   -- a chunk is cut short
-  pub answers-cut : w .cut ≡ true → ended (refused UnexpectedBufferEnd) (stateLeft header wanted (w .place) left) left-out ≡ r
+  pub answers-cut : w .cut ≡ true → ended (refused UnexpectedBufferEnd) (stateLeft header number wanted (w .place) left) left-out ≡ r
   answers-cut short = rw (back, is-left) (sym (rw short at ran))
 
   -- no step is left
-  pub answers-more : w .cut ≡ false → w .spare ≡ 0 → going (stateLeft header wanted (w .place) left) left-out ≡ r
+  pub answers-more : w .cut ≡ false → w .spare ≡ 0 → going (stateLeft header number wanted (w .place) left) left-out ≡ r
   unfolding stood
   answers-more whole none = rw (back, is-left) (sym (rw (whole, none) at ran))
 
   -- the marker test
   pub answers-end :
       w .cut ≡ false → (w .spare ≡ 0 → ⊥) → (size : ℕ) → size ≡ sizeWanted header wanted
-      → (a : StepAnswer) → a ≡ endAnswer (closing size m (w .place .at)) → ranBy a (stateLeft header wanted (w .place) left) left-out ≡ r
+      → (a : StepAnswer) → a ≡ endAnswer (closing size m (w .place .at)) → ranBy a (stateLeft header number wanted (w .place) left) left-out ≡ r
   answers-end whole some size counted a is =
       rw (back, is-left, is, counted)
-      (end-ran (closing (sizeWanted header wanted) m (w .place .at)) (stateAt header wanted (w .place)) (take from out ++ w .out)
-      ∙ sym (rw whole at ran ∙ stood-end header wanted m (w .spare) (stateAt header wanted (w .place)) (take from out ++ w .out) some))
+      (end-ran (closing (sizeWanted header wanted) m (w .place .at)) (stateAt header number wanted (w .place)) (take from out ++ w .out)
+      ∙ sym (rw whole at ran ∙ stood-end header wanted m (w .spare) (stateAt header number wanted (w .place)) (take from out ++ w .out) some))

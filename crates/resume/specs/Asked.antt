@@ -12,13 +12,13 @@ use Rattle.rules.specs.Step.{State, wellFormed, Started}
 use Rattle.rules.specs.Record.{afterNumber, readSlots}
 
 -- a record from its pixel position on
-abbrev pub fromPixel : Header → ℕ → ℕ → List ℕ → Started
-fromPixel header wanted at bytes =
-    afterNumber bytes (readNumber bytes) (λ pixel rest. readSlots header wanted at pixel rest)
+abbrev pub fromPixel : ℕ → Header → ℕ → ℕ → List ℕ → Started
+fromPixel expected header wanted at bytes =
+    afterNumber bytes (readNumber bytes) (λ pixel rest. readSlots expected header wanted at pixel rest)
 
 -- a record from its byte position on
-abbrev pub fromAt : Header → ℕ → List ℕ → Started
-fromAt header wanted bytes = afterNumber bytes (readNumber bytes) (fromPixel header wanted)
+abbrev pub fromAt : ℕ → Header → ℕ → List ℕ → Started
+fromAt expected header wanted bytes = afterNumber bytes (readNumber bytes) (fromPixel expected header wanted)
 
 -- wanted is 3 or 4
 abbrev pub WantedFits : ℕ → Type 0

@@ -21,11 +21,12 @@ stateOf d =
       wanted = d .wanted;
       place = record { at = d .at; pixel = d .pixel; current = d .current; slots = d .slots };
       left = d .left;
+      number = d .number;
     }
 
 -- a state to start from
 abbrev pub idleState : State
-idleState = startState defaultHeader 3
+idleState = startState defaultHeader 0 3
 
 -- a start's answer: accepted, or the refusal
 abbrev pub startAnswer : Started → StartAnswer
@@ -61,6 +62,7 @@ decoderOf s =
       left = s .left;
       current = s .place .current;
       slots = s .place .slots;
+      number = s .number;
     }
 
 -- two decoders that hold the same state are the same

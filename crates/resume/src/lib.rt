@@ -35,6 +35,8 @@ pub struct Decoder {
     pub left: usize,
     pub current: Pixel,
     pub slots: Slots,
+    // The broker's number of the message.
+    pub number: u64,
 }
 
 pub enum StartAnswer {
@@ -72,28 +74,28 @@ impl Decoder {
     pub fn idle() -> Self
         ensures { λ r. ⌜ stateOf r ≡ idleState ⌝ }
     {
-        start::fresh(Header::default(), 3)
+        start::fresh(Header::default(), 0, 3)
     }
 
-    // The state before the first chunk of a message.
-    pub fn start(self, message: &[u8], wanted: u64) -> Started
-        ensures { λ r. ⌜ Answers (starting (now (message .entry)) wanted) self r ⌝ }
+    // The state before the first chunk of the message with this number.
+    pub fn start(self, message: &[u8], number: u64, wanted: u64) -> Started
+        ensures { λ r. ⌜ Answers (starting (now (message .entry)) number wanted) self r ⌝ }
     {
         match Header::decode(message) {
             HeaderRead::Refused(e) => start::refused(self, e),
             HeaderRead::Ok(header) => {
-                start::after_wanted(self, header, Channels::try_from(wanted))
+                start::after_wanted(self, header, number, Channels::try_from(wanted))
             }
         }
     }
 
-    // The state that a record holds.
-    pub fn take_up(self, record: &[u8]) -> Started
-        ensures { λ r. ⌜ Answers (readRecord (now («record» .entry))) self r ⌝ }
+    // The state that a record holds, if it is of the message with this number.
+    pub fn take_up(self, number: u64, record: &[u8]) -> Started
+        ensures { λ r. ⌜ Answers (readRecord number (now («record» .entry))) self r ⌝ }
     {
         match Header::decode(record) {
             HeaderRead::Refused(e) => start::refused(self, e),
-            HeaderRead::Ok(header) => read_record::read_wanted(self, header, &record[14..]),
+            HeaderRead::Ok(header) => read_record::read_wanted(self, number, header, &record[14..]),
         }
     }
 
@@ -135,7 +137,8 @@ impl Decoder {
     {
         let numbers = number::len(self.wanted)
             + number::len(self.at as u64)
-            + number::len(self.pixel as u64);
+            + number::len(self.pixel as u64)
+            + number::len(self.number);
         QOI_HEADER_SIZE + numbers + 260
     }
 
@@ -150,6 +153,13 @@ impl Decoder {
         ensures { λ r. ⌜ r ≡ self .wanted ⌝ }
     {
         self.wanted
+    }
+
+    // The message's number.
+    pub fn number(self) -> u64
+        ensures { λ r. ⌜ r ≡ self .number ⌝ }
+    {
+        self.number
     }
 
     // The bytes of the whole picture, saturating.

@@ -94,6 +94,7 @@ fn go_on(decoder: Decoder, message: &[u8], out: &mut [u8], steps: usize, require
         left: still,
         current: last,
         slots: held,
+        number: decoder.number,
     };
     if walked.cut {
         return Stepped {

@@ -12,8 +12,8 @@ use pixel::error::Error;
 use pixel::types::ChannelsRead;
 
 // The state before the first chunk: every pixel is left.
-pub fn fresh(header: Header, wanted: u64) -> Decoder
-    ensures { λ r. ⌜ stateOf r ≡ startState header wanted ⌝ }
+pub fn fresh(header: Header, number: u64, wanted: u64) -> Decoder
+    ensures { λ r. ⌜ stateOf r ≡ startState header number wanted ⌝ }
 {
     let current = Pixel::start();
     let clear = Pixel::clear();
@@ -26,6 +26,7 @@ pub fn fresh(header: Header, wanted: u64) -> Decoder
         left: header.n_pixels(),
         current,
         slots,
+        number,
     }
 }
 
@@ -40,13 +41,13 @@ pub fn refused(old: Decoder, e: Error) -> Started
 }
 
 // 2 for wanted other than 3 or 4.
-pub fn after_wanted(old: Decoder, header: Header, wanted: ChannelsRead) -> Started
-    ensures { λ r. ⌜ Answers (startWanted header wanted) old r ⌝ }
+pub fn after_wanted(old: Decoder, header: Header, number: u64, wanted: ChannelsRead) -> Started
+    ensures { λ r. ⌜ Answers (startWanted header number wanted) old r ⌝ }
 {
     match wanted {
         ChannelsRead::Refused(e) => refused(old, e),
         ChannelsRead::Ok(channels) => {
-            let decoder = fresh(header, channels.as_u8() as u64);
+            let decoder = fresh(header, number, channels.as_u8() as u64);
             Started {
                 answer: StartAnswer::Ok,
                 decoder,

@@ -4,7 +4,7 @@ ghost use mathlib.Core.List.{_++_};
 ghost use Prim.Native.Nat.{_+_, _≤_};
 ghost use lib.ListN.{length};
 ghost use Rattle.number.specs.Seven.{sevenBits};
-ghost use Rattle.rules.specs.Bytes.{pasted, writtenOver, Puts};
+ghost use Rattle.rules.specs.Bytes.{writtenOver, Puts};
 ghost use Rattle.rules.specs.Record.{pixelsBytes, recordBytes};
 ghost use Rattle.resume.specs.State.{stateOf};
 use crate::Decoder;
@@ -28,7 +28,8 @@ pub fn put_record(out: &mut [u8], decoder: Decoder)
     );
     let current = decoder.current;
     let slots = decoder.slots;
-    put_pixels(out, pixels, current, slots);
+    let last = put_pixels(out, pixels, current, slots);
+    put_number(out, last, decoder.number);
 }
 
 // Writes three numbers at a place, and answers where they end.
@@ -41,19 +42,19 @@ fn put_numbers(out: &mut [u8], start: usize, a: u64, b: u64, c: u64) -> usize
     put_number(out, third, c)
 }
 
-// Writes the current pixel and the slots at a place.
-fn put_pixels(out: &mut [u8], start: usize, current: Pixel, slots: Slots)
+// Writes the current pixel and the slots at a place, and answers where they end.
+fn put_pixels(out: &mut [u8], start: usize, current: Pixel, slots: Slots) -> usize
     requires { ⌜ start + length (current .rgba) + length (pixelsBytes slots) ≤ length (now out) ⌝ }
-    ensures { λ _. ⌜ now (out .exit) ≡ pasted start (current .rgba ++ pixelsBytes slots) (now (out .entry)) ⌝ }
+    ensures { λ r. ⌜ Puts start (current .rgba ++ pixelsBytes slots) (now (out .entry)) r (now (out .exit)) ⌝ }
 {
     let at = put_pixel(out, start, current);
-    put_slots(out, at, slots);
+    put_slots(out, at, slots)
 }
 
-// Writes 64 pixels at a place.
-fn put_slots(out: &mut [u8], start: usize, slots: Slots)
+// Writes 64 pixels at a place, and answers where they end.
+fn put_slots(out: &mut [u8], start: usize, slots: Slots) -> usize
     requires { ⌜ start + length (pixelsBytes slots) ≤ length (now out) ⌝ }
-    ensures { λ _. ⌜ now (out .exit) ≡ pasted start (pixelsBytes slots) (now (out .entry)) ⌝ }
+    ensures { λ r. ⌜ Puts start (pixelsBytes slots) (now (out .entry)) r (now (out .exit)) ⌝ }
 {
     let mut at = start;
     let mut i: usize = 0;
@@ -62,6 +63,7 @@ fn put_slots(out: &mut [u8], start: usize, slots: Slots)
         at = put_pixel(out, at, slot);
         i += 1;
     }
+    at
 }
 
 // Writes a pixel's four bytes at a place, and answers where they end.

@@ -1,4 +1,4 @@
--- `resume::Decoder::record_len` meets its contract: fourteen bytes, three numbers, and four bytes for each of 65
+-- `resume::Decoder::record_len` meets its contract: fourteen bytes, four numbers, and four bytes for each of 65
 -- pixels.
 -- Assumes nothing.
 use Prim.Native.Nat.{_+_, _*_, _≤_}
@@ -20,13 +20,20 @@ add-numbers c =
     record { fits = omega (arith, c .before .len .ensures, c .len2 .ensures, length-at-most-ten (c .before .before .args .self .wanted), length-at-most-ten (c .before .before .args .self .at)) }
 
 -- three numbers take thirty bytes at most
-few : (c : tie.After-len3) → c .before .before .len .result + c .before .len2 .result + c .len3 .result ≤ 30
-few c =
+three : (c : tie.After-len3) → c .before .before .len .result + c .before .len2 .result + c .len3 .result ≤ 30
+three c =
     let d = c .before .before .before .args .self in
     omega (arith, c .before .before .len .ensures, c .before .len2 .ensures, c .len3 .ensures, length-at-most-ten (d .wanted), length-at-most-ten (d .at), length-at-most-ten (d .pixel))
 
 add-numbers-2 : tie.Need-add-numbers-2
-add-numbers-2 c = record { fits = omega (arith, few c) }
+add-numbers-2 c = record { fits = omega (arith, three c) }
+
+-- and four take forty
+few : (c : tie.After-len4) → c .before .before .before .len .result + c .before .before .len2 .result + c .before .len3 .result + c .len4 .result ≤ 40
+few c = omega (arith, three (c .before), c .len4 .ensures, length-at-most-ten (c .before .before .before .before .args .self .number))
+
+add-numbers-3 : tie.Need-add-numbers-3
+add-numbers-3 c = record { fits = omega (arith, few c) }
 
 add-result : tie.Need-add-result
 add-result c = record { fits = omega (arith, few c) }
@@ -36,10 +43,10 @@ add-result-2 c = record { fits = omega (arith, few c) }
 
 returns : tie.Need-returns
 returns c =
-    let d = c .before .before .before .args .self in
-    let is = typed d _ (c .before .before .before .good .0) in
+    let d = c .before .before .before .before .args .self in
+    let is = typed d _ (c .before .before .before .before .good .0) in
     let many : length (pixelsBytes (d .slots)) ≡ 4 * length (d .slots) = pixels-length (d .slots) (λ i h. is .slot-is i (omega (arith, is .slots-are))) in
-    omega (arith, record-parts (stateOf d), c .before .before .len .ensures, c .before .len2 .ensures, c .len3 .ensures, many, is .current-is, is .slots-are)
+    omega (arith, record-parts (stateOf d), c .before .before .before .len .ensures, c .before .before .len2 .ensures, c .before .len3 .ensures, c .len4 .ensures, many, is .current-is, is .slots-are)
 
 pub record-len-spec : {M : Type 1} → statement M
 record-len-spec =
@@ -50,6 +57,8 @@ record-len-spec =
     add-numbers
     (λ c κs. search needs)
     add-numbers-2
+    (λ c κs. search needs)
+    add-numbers-3
     add-result
     add-result-2
     returns)

@@ -1,6 +1,5 @@
 -- `resume::read_record::accept` meets its contract: the tests are the definition's, in its order.
 -- Assumes nothing.
-use mathlib.Core.Path.{refl}
 use borrow.Author.Needs.{needs}
 use borrow.Author.Tests.{eq-eqb, ne-eqb, not-true, not-false}
 use Rattle.rules.specs.Record.{acceptState}
@@ -20,9 +19,16 @@ returns-2 c =
 returns-3 : tie.Need-returns-3
 unfolding acceptState
 returns-3 c =
-    rw (← c .before .before .well-formed .ensures, not-false (c .before .before .well-formed .result) (c .before .if1 .left), eq-eqb _ _ (c .if2 .left)) (refl, refl)
+    rw (← c .before .before .before .well-formed .ensures, not-false (c .before .before .before .well-formed .result) (c .before .before .if1 .left), eq-eqb _ _ (c .before .if2 .left)) (c .accept-number .ensures)
 
 pub accept-spec : {M : Type 1} → statement M
 accept-spec =
     tie.close
-    (tie.spec (λ c κs. search needs) (λ c κs. search needs) returns (λ c κs. search needs) returns-2 returns-3)
+    (tie.spec
+    (λ c κs. search needs)
+    (λ c κs. search needs)
+    returns
+    (λ c κs. search needs)
+    returns-2
+    (λ c κs. search needs)
+    returns-3)

@@ -68,7 +68,7 @@ walk c = walkOf (c .walk .result) (c .walk .last .1 .1 .1 .1 .1 .0)
 ran :
     (c : tie.After-walk)
     → running (start c .args .message .now) (start c .args .steps) (given (start c)) (start c .args .out .now)
-    ≡ ranWalk (given (start c) .header) (given (start c) .wanted) (start c .args .message .now)
+    ≡ ranWalk (given (start c) .header) (given (start c) .number) (given (start c) .wanted) (start c .args .message .now)
     (beneath (take (from (start c)) (start c .args .out .now)) (walk c))
 ran c =
     run-through (start c .args .message .now) (given (start c)) (start c .args .out .now) (start c .args .steps) (sets (start c)) (start c .pre .inside) (c .before .before .before .channels-of .result) (c .before .before .before .channels-of .ensures)
@@ -116,13 +116,13 @@ returns : tie.Need-returns
 returns c =
     let w = c .before .before .before .before .before .before .before in
     let s = start w in
-    answers-cut (given s .header) (given s .wanted) (s .args .message .now) (s .args .out .now) (from s) (walk w) _ (ran w) (before-fits s) (left w) (left-there w) (c .if1 .taken)
+    answers-cut (given s .header) (given s .number) (given s .wanted) (s .args .message .now) (s .args .out .now) (from s) (walk w) _ (ran w) (before-fits s) (left w) (left-there w) (c .if1 .taken)
 
 returns-2 : tie.Need-returns-2
 returns-2 c =
     let w = c .before .before .before .before .before .before .before .before .before in
     let s = start w in
-    answers-more (given s .header) (given s .wanted) (s .args .message .now) (s .args .out .now) (from s) (walk w) _ (ran w) (before-fits s) (left w) (left-there w) (c .before .before .if1 .left) (c .if2 .taken)
+    answers-more (given s .header) (given s .number) (given s .wanted) (s .args .message .now) (s .args .out .now) (from s) (walk w) _ (ran w) (before-fits s) (left w) (left-there w) (c .before .before .if1 .left) (c .if2 .taken)
 
 close-requires : tie.Need-close-requires
 close-requires c κs = lies (c .before .before .before .before .before .before .before .before .before) .0
@@ -131,7 +131,7 @@ returns-3 : tie.Need-returns-3
 returns-3 c =
     let w = c .before .before .before .before .before .before .before .before .before .before in
     let s = start w in
-    answers-end (given s .header) (given s .wanted) (s .args .message .now) (s .args .out .now) (from s) (walk w) _ (ran w) (before-fits s) (left w) (left-there w) (c .before .before .before .if1 .left) (c .before .if2 .left) _ (s .pre .counted) _ (c .close .ensures)
+    answers-end (given s .header) (given s .number) (given s .wanted) (s .args .message .now) (s .args .out .now) (from s) (walk w) _ (ran w) (before-fits s) (left w) (left-there w) (c .before .before .before .if1 .left) (c .before .if2 .left) _ (s .pre .counted) _ (c .close .ensures)
 
 pub go-on-spec : {M : Type 1} → statement M
 go-on-spec =

@@ -13,7 +13,7 @@ returns c = rw (c .before .before .wanted .given .1) (c .refused .ensures)
 returns-2 : tie.Need-returns-2
 unfolding startWanted
 returns-2 c =
-    rw (c .before .before .before .wanted2 .given .1) (refl, c .fresh .ensures ∙ ap (startState (c .before .before .before .before .before .args .header)) (c .before .as-u8 .ensures))
+    rw (c .before .before .before .wanted2 .given .1) (refl, c .fresh .ensures ∙ ap (startState (c .before .before .before .before .before .args .header) (c .before .before .before .before .before .args .number)) (c .before .as-u8 .ensures))
 
 pub after-wanted-spec : {M : Type 1} → statement M
 after-wanted-spec =

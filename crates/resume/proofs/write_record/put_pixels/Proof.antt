@@ -2,6 +2,7 @@
 -- Assumes nothing.
 use mathlib.Core.Path.{_∙_}
 use native.Mathlib.Omega.{arith}
+use lib.ListN.{length-append}
 use borrow.Author.Needs.{needs}
 use Rattle.rules.specs.Record.{pixelsBytes}
 use Rattle.resume.proofs.Parts.{put-next}
@@ -12,8 +13,12 @@ returns : tie.Need-returns
 returns c =
     let a = c .before .before .before .before .before .before .before .before .before .args in
     let first = c .before .before .before .before .before .before .put-pixel in
-    c .before .before .put-slots .ensures
-    ∙ put-next (a .out .now) (first .last .0) (a .start) (first .result) (a .current .rgba) (pixelsBytes (a .slots)) (first .ensures .1) (first .ensures .0) (omega arith)
+    let second = c .before .before .put-slots in
+    let one = first .ensures .0 in (
+      simp length-append (omega (arith, second .ensures .0)),
+      second .ensures .1
+          ∙ put-next (a .out .now) (first .last .0) (a .start) (first .result) (a .current .rgba) (pixelsBytes (a .slots)) (first .ensures .1) one (omega arith),
+    )
 
 pub put-pixels-spec : {M : Type 1} → statement M
 put-pixels-spec = tie.close (tie.spec (λ c κs. search needs) (λ c κs. search needs) (λ c. search needs) returns)

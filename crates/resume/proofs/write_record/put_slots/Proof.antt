@@ -4,6 +4,7 @@
 use Prim.Native.Nat.{suc, _<_, _≤_, _+_, _-_}
 use mathlib.Core.Path.{_≡_, refl, sym, _∙_}
 use mathlib.Core.List.{[]}
+use native.Mathlib.Nat.{add-zero}
 use native.Mathlib.Numerals.{add-one}
 use native.Mathlib.Omega.{arith}
 use lib.ListN.{length, getD, drop, drop-of-length-le}
@@ -21,7 +22,8 @@ Inv-loop out₀ start slots at₀ i₀ out at i =
     (i ≤ 64)
     × (length slots ≡ 64)
     × (length out ≡ length out₀)
-    × (at + length (pixelsBytes (drop i slots)) ≤ length out₀)
+    × (at + length (pixelsBytes (drop i slots)) ≡ start + length (pixelsBytes slots))
+    × (start + length (pixelsBytes slots) ≤ length out₀)
     × (pasted at (pixelsBytes (drop i slots)) out ≡ pasted start (pixelsBytes slots) out₀)
 
 abbrev μ-loop : tie.MeasureT-loop
@@ -30,7 +32,7 @@ abbrev μ-loop : tie.MeasureT-loop
 loop-holds : tie.Need-loop-holds Inv-loop μ-loop
 loop-holds c =
     let many : length (c .before .args .t3) ≡ 64 = search needs in
-    (omega arith, many, refl, omega arith, refl)
+    (omega arith, many, refl, refl, c .before .pre, refl)
 
 mul-slot : tie.Need-mul-slot Inv-loop μ-loop
 mul-slot c = omega arith
@@ -58,9 +60,10 @@ loop-again c =
       l .inv .1,
       put .kept .0 ∙ l .inv .2,
       rw (add-one (l .i)) (omega (arith, put .ensures .0)),
+      l .inv .4,
       rw (add-one (l .i))
           (put-next (l .out) (put .last .0) (l .at) (put .result) (getD slots (l .i) noPixel .rgba) (pixelsBytes (drop (suc (l .i)) slots)) (put .ensures .1) (put .ensures .0) (omega arith)
-          ∙ (rw (bytes-next slots (l .i) h) at (l .inv .4))),
+          ∙ (rw (bytes-next slots (l .i) h) at (l .inv .5))),
     )
 
 same-length : tie.Need-same-length Inv-loop μ-loop
@@ -71,7 +74,7 @@ unfolding pixelsBytes
 returns c =
     let l = c .before .loop in
     let none : drop (l .i) (c .before .before .before .args .t3) ≡ [] = drop-of-length-le (c .before .before .before .args .t3) {i = l .i} (omega arith) in
-    sym (pasted-none (l .out) (l .at)) ∙ (rw none at (l .inv .4))
+    (sym (add-zero (l .at)) ∙ (rw none at (l .inv .3)), sym (pasted-none (l .out) (l .at)) ∙ (rw none at (l .inv .5)))
 
 pub put-slots-spec : {M : Type 1} → statement M
 put-slots-spec =
