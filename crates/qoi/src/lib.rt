@@ -117,18 +117,20 @@ pub extern "C" fn pivotshade_strict(message: &[u8], figures: &mut FourFigures) -
     }
 }
 
-// Starts a decode that can be taken over, and writes its record: the record's length.
+// Starts a decode that can be taken over, of the message with this number, and writes its record: the record's length.
 #[no_mangle]
 pub extern "C" fn pivotshade_start(
     message: &[u8],
+    number: u64,
     wanted: u64,
     record: &mut [u8],
     figures: &mut FourFigures,
 ) -> u64
-    ensures { λ r. ⌜ IsStart (now (message .entry)) wanted (now («record» .entry)) (r ∷ now (figures .exit)) (now («record» .exit)) ⌝ }
+    ensures { λ r. ⌜ IsStart (now (message .entry)) number wanted (now («record» .entry))
+        (r ∷ now (figures .exit)) (now («record» .exit)) ⌝ }
 {
     let idle = Decoder::idle();
-    let started = idle.start(message, wanted);
+    let started = idle.start(message, number, wanted);
     let taken = started.answer;
     match taken {
         StartAnswer::Refused(e) => refuse(e, figures),
@@ -139,22 +141,23 @@ pub extern "C" fn pivotshade_start(
     }
 }
 
-// Takes up a record and does at most `steps` steps. 0 is the end, with the decode's figures; 256 is more to do, with
-// the next record's length.
+// Takes up a record of the message with this number and does at most `steps` steps. 0 is the end, with the decode's
+// figures; 256 is more to do, with the next record's length.
 #[no_mangle]
 pub extern "C" fn pivotshade_run(
     message: &[u8],
+    number: u64,
     record: &[u8],
     out: &mut [u8],
     steps: u64,
     next: &mut [u8],
     figures: &mut FourFigures,
 ) -> u64
-    ensures { λ r. ⌜ IsRun (now (message .entry)) steps (now («record» .entry)) (now (out .entry)) (now (next .entry))
-        (r ∷ now (figures .exit)) (now (out .exit)) (now (next .exit)) ⌝ }
+    ensures { λ r. ⌜ IsRun (now (message .entry)) number (now («record» .entry)) (now (out .entry)) steps
+        (now (next .entry)) (r ∷ now (figures .exit)) (now (out .exit)) (now (next .exit)) ⌝ }
 {
     let idle = Decoder::idle();
-    let started = idle.take_up(record);
+    let started = idle.take_up(number, record);
     let taken = started.answer;
     match taken {
         StartAnswer::Refused(e) => refuse(e, figures),

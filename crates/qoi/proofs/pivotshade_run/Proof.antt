@@ -12,7 +12,8 @@ use Rattle.qoi.proofs.pivotshade_run.Tie as tie
 -- the record led to the state that is run
 leads :
     (c : tie.After-run-arg) →
-    readRecord (c .before .before .before .before .before .before .before .before .before .before .args .«record» .now)
+    readRecord (c .before .before .before .before .before .before .before .before .before .before .args .number)
+    (c .before .before .before .before .before .before .before .before .before .before .args .«record» .now)
     ≡ started (stateOf (c .before .before .before .before .take-up .result .decoder))
 leads c =
     let told = c .before .before in
@@ -23,8 +24,8 @@ returns : tie.Need-returns
 returns c =
     let told = c .before .before .before in
     let taken = told .before .before in
-    let part = taken .before .before .before .before .before .before .args .«record» .now in
-    let is = declined (readRecord part) _ (sym (taken .take-up .ensures .0) ∙ told .taken .given .1) in
+    let args = taken .before .before .before .before .before .before .args in
+    let is = declined (readRecord (args .number) (args .«record» .now)) _ (sym (taken .take-up .ensures .0) ∙ told .taken .given .1) in
     rw is (c .refuse .ensures, (refl, refl))
 
 returns-2 : tie.Need-returns-2

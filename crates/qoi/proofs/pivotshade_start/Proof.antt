@@ -12,7 +12,7 @@ returns c =
     let told = c .before .before .before in
     let begun = told .before .before in
     let args = begun .before .before .before .before .args in
-    let starts = starting (args .message .now) (args .wanted) in
+    let starts = starting (args .message .now) (args .number) (args .wanted) in
     let is = declined starts _ (sym (begun .start .ensures .0) ∙ told .taken .given .1) in
     rw is (c .refuse .ensures, refl)
 
@@ -22,7 +22,7 @@ returns-2 c =
     let told = written .before .before .before .before in
     let begun = told .before .before in
     let args = begun .before .before .before .before .args in
-    let starts = starting (args .message .now) (args .wanted) in
+    let starts = starting (args .message .now) (args .number) (args .wanted) in
     let is =
     accepted starts _ (sym (begun .start .ensures .0) ∙ told .enum-told .given .1)
     ∙ ap started (sym (begun .start .ensures .1)) in
