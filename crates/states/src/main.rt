@@ -2,9 +2,9 @@
 // changed, and what writing the state's record answers; of a record that is refused, its refusal alone.
 //
 // The list comes on standard input, 1,024 bytes a state: the length of a record, two bytes, and the record, padded to
-// 290; eight bytes, how many pixels more are left than the picture has from the pixel position on, modulo 2^64; one
-// byte, how many steps to run; the length of a message, two bytes, and the message, padded. Numbers have their high
-// byte first.
+// 300; eight bytes, how many pixels more are left than the picture has from the pixel position on, modulo 2^64; eight
+// bytes, the message's number that is expected; one byte, how many steps to run; the length of a message, two bytes,
+// and the message, padded. Numbers have their high byte first.
 ghost use Prim.Native.Nat.{_≤_};
 use libc::STDIN_FILENO;
 use libc::STDOUT_FILENO;
@@ -48,6 +48,7 @@ fn made_up(decoder: Decoder, more: u64) -> Decoder {
         left: std::num::wrapping_add_usize(decoder.left, more as usize),
         current,
         slots,
+        number: decoder.number,
     }
 }
 
@@ -56,23 +57,30 @@ fn print_number(n: u64) {
     io::write_all(STDOUT_FILENO, b" ");
 }
 
-fn print_answer(number: u64, a: u64, b: u64, c: u64) {
+fn print_answer(number: u64, a: u64, b: u64, c: u64, d: u64) {
     print_number(number);
     print_number(a);
     print_number(b);
     print_number(c);
+    print_number(d);
 }
 
 fn print_refusal(e: Error) {
     let figures = e.figures();
-    print_answer(e.number(), figures[0], figures[1], figures[2]);
+    print_answer(e.number(), figures[0], figures[1], figures[2], figures[3]);
 }
 
-// With more to do: 256, and byte position, pixel position and pixels left of the next state.
+// With more to do: 256, and byte position, pixel position, pixels left and message number of the next state.
 fn print_run(answer: StepAnswer, next: Decoder) {
     match answer {
-        StepAnswer::More => print_answer(256, next.at as u64, next.pixel as u64, next.left as u64),
-        StepAnswer::Done { size, used } => print_answer(0, size as u64, used as u64, 0),
+        StepAnswer::More => print_answer(
+            256,
+            next.at as u64,
+            next.pixel as u64,
+            next.left as u64,
+            next.number,
+        ),
+        StepAnswer::Done { size, used } => print_answer(0, size as u64, used as u64, 0, 0),
         StepAnswer::Refused(e) => print_refusal(e),
     }
 }
@@ -92,7 +100,7 @@ fn print_changed(out: &[u8]) {
 
 fn print_written(written: Written) {
     match written {
-        Written::Done { size } => print_answer(0, size as u64, 0, 0),
+        Written::Done { size } => print_answer(0, size as u64, 0, 0, 0),
         Written::Refused(e) => print_refusal(e),
     }
 }
@@ -105,14 +113,14 @@ fn run(decoder: Decoder, message: &[u8], steps: u64) {
     let next = ran.decoder;
     print_run(answer, next);
     print_changed(&out);
-    let mut record = [0u8; 290];
+    let mut record = [0u8; 300];
     print_written(decoder.write_record(&mut record));
     io::write_all(STDOUT_FILENO, b"\n");
 }
 
 // The state of a record with more pixels left, or the record's refusal.
-fn run_record(record: &[u8], more: u64, message: &[u8], steps: u64) {
-    let started = Decoder::idle().take_up(record);
+fn run_record(record: &[u8], more: u64, number: u64, message: &[u8], steps: u64) {
+    let started = Decoder::idle().take_up(number, record);
     let answer = started.answer;
     let decoder = started.decoder;
     match answer {
@@ -130,22 +138,25 @@ fn run_entry(entry: &[u8]) {
         return;
     }
     let record = two(entry[0], entry[1]);
-    let message = two(entry[301], entry[302]);
-    if 290 < record {
+    let message = two(entry[319], entry[320]);
+    if 300 < record {
         return;
     }
-    if 721 < message {
+    if 703 < message {
         return;
     }
     let record_end = 2 + record;
-    let message_end = 303 + message;
-    let high = four(entry[292], entry[293], entry[294], entry[295]);
-    let low = four(entry[296], entry[297], entry[298], entry[299]);
-    let steps = wide(entry[300]);
+    let message_end = 321 + message;
+    let more_high = four(entry[302], entry[303], entry[304], entry[305]);
+    let more_low = four(entry[306], entry[307], entry[308], entry[309]);
+    let number_high = four(entry[310], entry[311], entry[312], entry[313]);
+    let number_low = four(entry[314], entry[315], entry[316], entry[317]);
+    let steps = wide(entry[318]);
     run_record(
         &entry[2..record_end],
-        eight(high, low),
-        &entry[303..message_end],
+        eight(more_high, more_low),
+        eight(number_high, number_low),
+        &entry[321..message_end],
         steps,
     );
 }
