@@ -279,6 +279,9 @@ resume·Decoder·header κs a z z′ e e′ ok ok′ p q = (p ∙ sym q, refl)
 pub resume·Decoder·channels : Determined Decoder.channels.Kinds.ps Decoder.channels.Kinds.r Decoder.channels.Reads.Post
 resume·Decoder·channels κs a z z′ e e′ ok ok′ p q = (p ∙ sym q, refl)
 
+pub resume·Decoder·number : Determined Decoder.number.Kinds.ps Decoder.number.Kinds.r Decoder.number.Reads.Post
+resume·Decoder·number κs a z z′ e e′ ok ok′ p q = (p ∙ sym q, refl)
+
 pub resume·Decoder·required-buf-len : Determined Decoder.required_buf_len.Kinds.ps Decoder.required_buf_len.Kinds.r Decoder.required_buf_len.Reads.Post
 resume·Decoder·required-buf-len κs a z z′ e e′ ok ok′ p q = (p ∙ sym q, refl)
 
@@ -380,14 +383,14 @@ pub qoi·pivotshade-start : Determined qoi.pivotshade_start.Kinds.ps qoi.pivotsh
 qoi·pivotshade-start κs a z z′ e e′ ok ok′ p q =
     let same = p .0 ∙ sym (q .0) in
     let recorded = p .1 ∙ sym (q .1) in
-    (returned-same same, λ i. (tt, (tt, (recorded i, (figures-same same i, tt)))))
+    (returned-same same, λ i. (tt, (tt, (tt, (recorded i, (figures-same same i, tt))))))
 
 pub qoi·pivotshade-run : Determined qoi.pivotshade_run.Kinds.ps qoi.pivotshade_run.Kinds.r qoi.pivotshade_run.Reads.Post
 qoi·pivotshade-run κs a z z′ e e′ ok ok′ p q =
     let same = p .0 ∙ sym (q .0) in
     let out = p .1 .0 ∙ sym (q .1 .0) in
     let next = p .1 .1 ∙ sym (q .1 .1) in
-    (returned-same same, λ i. (tt, (tt, (out i, (tt, (next i, (figures-same same i, tt)))))))
+    (returned-same same, λ i. (tt, (tt, (tt, (out i, (tt, (next i, (figures-same same i, tt))))))))
 
 pub qoi·pivotshade-count : Determined qoi.pivotshade_count.Kinds.ps qoi.pivotshade_count.Kinds.r qoi.pivotshade_count.Reads.Post
 qoi·pivotshade-count κs a z z′ e e′ ok ok′ p q =

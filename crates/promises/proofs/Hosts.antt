@@ -251,7 +251,7 @@ record-alone m number r o next are roomy =
 
 module _ (broker : Broker) {r o : List ℕ} (c : AnyRecord broker r o) where
   -- the checkpoint that a record is
-  checkpoint-of : AnyCheckpoint broker (lives (c .history) .state) o
+  abbrev checkpoint-of : AnyCheckpoint broker (lives (c .history) .state) o
   checkpoint-of =
       record {
         message = c .message;
