@@ -73,14 +73,8 @@ fn read_byte_position(
     match number::read(bytes) {
         NumberRead::Refused(e) => start::refused(old, e),
         NumberRead::Number { value, used } => {
-            read_pixel_position(
-                old,
-                expected,
-                header,
-                wanted,
-                value as usize,
-                &bytes[used..],
-            )
+            let at = value as usize;
+            read_pixel_position(old, expected, header, wanted, at, &bytes[used..])
         }
     }
 }
@@ -99,15 +93,8 @@ fn read_pixel_position(
     match number::read(bytes) {
         NumberRead::Refused(e) => start::refused(old, e),
         NumberRead::Number { value, used } => {
-            read_slots(
-                old,
-                expected,
-                header,
-                wanted,
-                at,
-                value as usize,
-                &bytes[used..],
-            )
+            let pixel = value as usize;
+            read_slots(old, expected, header, wanted, at, pixel, &bytes[used..])
         }
     }
 }
