@@ -3,7 +3,7 @@
      1 input ended                           5 dimensions {width, height}             8 no marker after the last pixel
      2 channels {channels}                   6 image length {size, width, height}     9 bad state or record
      3 colour space {byte}                   7 output too small {size, required}     10 run past the image (strict)
-     4 magic {magic}                                                                 11 bytes after the marker (strict)
+     4 magic {magic}                        12 record of another message {number}    11 bytes after the marker (strict)
     19 hour {hour}                          20 number of cells {pixels, cells}       21 total too large {cell}
    Parts that are lent to one call do not overlap, and each pointer is good for its length; figures has room for four numbers. */
 #ifndef PIVOTSHADE_H
@@ -41,27 +41,31 @@ uint64_t pivotshade_strict(const uint8_t *msg, size_t len, uint64_t figures[4]);
 #define PIVOTSHADE_TEXT_MAX 160
 uint64_t pivotshade_text(uint64_t number, const uint64_t figures[4], uint8_t *out, size_t out_len, uint64_t answer[4]);
 
-/* Starts a decode that can be taken over, and writes its record (at most PIVOTSHADE_RECORD_MAX bytes): the record's length. After a refusal
-   record is as it was. 7 is the record's: with PIVOTSHADE_RECORD_MAX bytes it never comes. */
-#define PIVOTSHADE_RECORD_MAX 290
-uint64_t pivotshade_start(const uint8_t *msg, size_t len, uint64_t wanted, uint8_t *record, size_t record_len, uint64_t figures[4]);
+/* Starts a decode that can be taken over, and writes its record (at most PIVOTSHADE_RECORD_MAX bytes): the record's length. `number` is the one
+   that the broker gave the message, any number; each record of the decode names it. After a refusal record is as it was. 7 is the record's: with
+   PIVOTSHADE_RECORD_MAX bytes it never comes. */
+#define PIVOTSHADE_RECORD_MAX 300
+uint64_t pivotshade_start(const uint8_t *msg, size_t len, uint64_t number, uint64_t wanted, uint8_t *record, size_t record_len,
+                          uint64_t figures[4]);
 
-/* Takes up a record and does at most `steps` steps, a chunk each. 0: the decode ended, with decode's figures. PIVOTSHADE_MORE: there is more
-   to do; next holds the next record, and its length is the first figure. Else a refusal. Whatever is returned but PIVOTSHADE_MORE, next is as
-   it was. No byte of out before the record's pixel is written.
+/* Takes up a record of the message that came under `number` and does at most `steps` steps, a chunk each. 0: the decode ended, with decode's
+   figures. PIVOTSHADE_MORE: there is more to do; next holds the next record, and its length is the first figure. Else a refusal. Whatever is
+   returned but PIVOTSHADE_MORE, next is as it was. No byte of out before the record's pixel is written.
 
    out needs width x height x wanted bytes from the first run on, as for pivotshade_decode. Lend next PIVOTSHADE_RECORD_MAX bytes, always.
 
    0 steps test the record alone, and look neither at msg nor at out: PIVOTSHADE_MORE and the same record in next, or the record's refusal.
 
    A host owes, and the call cannot see:
-   - the message that the record was started on, byte for byte;
+   - the number that the message came under, and under one number always the same bytes: that the broker gives no number to two messages is
+     taken for granted;
    - an output that holds, before the record's pixel, what it held when the record was written; from there on it may hold anything;
    - parts that do not overlap, and that nobody else writes during the call: msg, record, out, next and figures are five different places. A
      record is not run into itself.
 
    Whose refusal it is, and what it leaves:
    - 2, 3, 4, 5 and 9 are the record's; out is as it was.
+   - 12 is the record's: it is whole, and of the message whose number is the figure. out is as it was.
    - 1 is the record's, cut short, or the message's: a call with 0 steps tells which.
    - 1 and 8 of the message leave out as pivotshade_decode leaves it.
    - 7 is out's, which is then as it was. Where next has less than PIVOTSHADE_RECORD_MAX bytes it may be next's: then the steps are done, and
@@ -70,10 +74,11 @@ uint64_t pivotshade_start(const uint8_t *msg, size_t len, uint64_t wanted, uint8
 
    A host that keeps its output in a file writes there only from the record's pixel on, and saves the next record after that is flushed. The
    pixel is the third number after a record's 14 header bytes, seven bits a byte, the lowest first, the top bit set on all but its last byte;
-   its first byte in out is that number times the wanted channels, which are the first number. */
+   its first byte in out is that number times the wanted channels, which are the first number. The message's number stands, in the same form,
+   260 bytes after the pixel, and ends the record. */
 #define PIVOTSHADE_MORE 256
-uint64_t pivotshade_run(const uint8_t *msg, size_t len, const uint8_t *record, size_t record_len, uint8_t *out, size_t out_len, uint64_t steps,
-                        uint8_t *next, size_t next_len, uint64_t figures[4]);
+uint64_t pivotshade_run(const uint8_t *msg, size_t len, uint64_t number, const uint8_t *record, size_t record_len, uint8_t *out, size_t out_len,
+                        uint64_t steps, uint8_t *next, size_t next_len, uint64_t figures[4]);
 
 /* Counts the rain of an hour, once however often its message comes. A month's table is two parts: totals, a number for each of `cells` cells, and
    marks, a byte for each of the hours 0 to 743, which is marked where the byte is not 0. A fresh table is all zeros. A message's picture is the
