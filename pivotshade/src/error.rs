@@ -3,7 +3,7 @@ use crate::ffi::{self, Answer};
 use std::convert::Infallible;
 use std::fmt;
 
-/// Why something was refused: crate qoi's variants, then six that are added.
+/// Why something was refused: crate qoi's variants, then seven that are added.
 ///
 /// Crate qoi's `IoError` is missing, since nothing here reads or writes a stream. So unlike crate qoi's this type can be copied and compared.
 ///
@@ -67,6 +67,11 @@ pub enum Error {
     RunPastImage,
     /// Bytes after the end marker, which the strict check alone refuses (added).
     BytesAfterMarker,
+    /// A record of another message than the one that it is read for (added).
+    OtherMessage {
+        /// The number that the record names.
+        number: u64,
+    },
     /// An hour above 743, which a count refuses (added).
     InvalidHour {
         /// The hour.
@@ -90,7 +95,7 @@ pub enum Error {
 pub type Result<T> = std::result::Result<T, Error>;
 
 impl Error {
-    /// The refusal's number, from 1 to 11 or from 19 to 21, as the functions of `include/pivotshade.h` return it.
+    /// The refusal's number, from 1 to 12 or from 19 to 21, as the functions of `include/pivotshade.h` return it.
     pub const fn number(&self) -> u64 {
         self.told().0
     }
@@ -126,6 +131,7 @@ impl Error {
             Self::BadState => (9, [0; 4]),
             Self::RunPastImage => (10, [0; 4]),
             Self::BytesAfterMarker => (11, [0; 4]),
+            Self::OtherMessage { number } => (12, [number, 0, 0, 0]),
             Self::InvalidHour { hour } => (19, [hour, 0, 0, 0]),
             Self::InvalidCellCount { pixels, cells } => (20, [pixels as u64, cells as u64, 0, 0]),
             Self::TotalTooLarge { cell } => (21, [cell as u64, 0, 0, 0]),
@@ -158,6 +164,7 @@ impl Error {
             9 => Self::BadState,
             10 => Self::RunPastImage,
             11 => Self::BytesAfterMarker,
+            12 => Self::OtherMessage { number: a },
             19 => Self::InvalidHour { hour: a },
             20 => Self::InvalidCellCount {
                 pixels: a as usize,

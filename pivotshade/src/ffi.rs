@@ -17,7 +17,7 @@ pub const COUNTED_ALREADY: u64 = 257;
 pub const HOURS: usize = 744;
 
 /// With as many bytes for a record no call lacks room for it.
-pub const RECORD_MAX: usize = 290;
+pub const RECORD_MAX: usize = 300;
 
 /// With as many bytes every refusal's words fit.
 pub const TEXT_MAX: usize = 160;
@@ -53,6 +53,7 @@ extern "C" {
     fn pivotshade_start(
         message: *const u8,
         length: usize,
+        number: u64,
         wanted: u64,
         record: *mut u8,
         record_length: usize,
@@ -61,6 +62,7 @@ extern "C" {
     fn pivotshade_run(
         message: *const u8,
         length: usize,
+        number: u64,
         record: *const u8,
         record_length: usize,
         out: *mut u8,
@@ -145,31 +147,40 @@ pub fn text(number: u64, told: &[u64; 4], out: &mut [u8]) -> Answer {
 }
 
 /// The first record's length.
-pub fn start(message: &[u8], wanted: u64, record: &mut [u8]) -> Answer {
+pub fn start(message: &[u8], number: u64, wanted: u64, record: &mut [u8]) -> Answer {
     let mut figures = [0; 4];
     // SAFETY: each pointer has its own slice's length; `message` is only read, and the `&mut` borrows `record` and `figures` overlap nothing.
-    let number = unsafe {
+    let answer = unsafe {
         pivotshade_start(
             message.as_ptr(),
             message.len(),
+            number,
             wanted,
             record.as_mut_ptr(),
             record.len(),
             &mut figures,
         )
     };
-    (number, figures)
+    (answer, figures)
 }
 
 /// What decode answers; or `MORE` and the length of the record in `next`.
-pub fn run(message: &[u8], record: &[u8], out: &mut [u8], steps: u64, next: &mut [u8]) -> Answer {
+pub fn run(
+    message: &[u8],
+    number: u64,
+    record: &[u8],
+    out: &mut [u8],
+    steps: u64,
+    next: &mut [u8],
+) -> Answer {
     let mut figures = [0; 4];
     // SAFETY: each pointer has its own slice's length; `message` and `record` are only read, and the `&mut` borrows `out`, `next` and `figures`
     // overlap nothing.
-    let number = unsafe {
+    let answer = unsafe {
         pivotshade_run(
             message.as_ptr(),
             message.len(),
+            number,
             record.as_ptr(),
             record.len(),
             out.as_mut_ptr(),
@@ -180,7 +191,7 @@ pub fn run(message: &[u8], record: &[u8], out: &mut [u8], steps: u64, next: &mut
             &mut figures,
         )
     };
-    (number, figures)
+    (answer, figures)
 }
 
 /// Message bytes used; or `COUNTED_ALREADY` and zeros.

@@ -31,11 +31,11 @@
 //! # What is added
 //!
 //! - A decode in steps: [`start`] makes a [`Record`], [`run`] goes on from one. Another worker may go on from any record that was saved, also where
-//!   the first one was cut off.
+//!   the first one was cut off. A record names its message by the number that the broker gave it, and is refused for any other.
 //! - [`strict()`]: whether a message has nothing that a decode would pass over.
 //! - Rain totals: a [`Table`] for a month, and [`Table::count`], which adds an hour's frame to it once, however often it comes.
 //! - [`rest`] and [`Decoder::data`]: what follows a message.
-//! - [`Error::number`] and [`Error::figures`], and six refusals.
+//! - [`Error::number`] and [`Error::figures`], and seven refusals.
 //!
 //! # What differs from crate qoi
 //!
@@ -43,7 +43,7 @@
 //! - No features, and `std` is needed. The encoder is that of crate qoi without its feature `reference`.
 //! - An output that is longer than needed, [`Decoder::data`] after a decode and a second decode: see [`Decoder`].
 //! - [`encode_max_len`] and [`Header::n_bytes`] stop at 2^64-1.
-//! - [`Error`] has six variants more, so a `match` over all of it needs them.
+//! - [`Error`] has seven variants more, so a `match` over all of it needs them.
 //!
 //! # Building
 //!

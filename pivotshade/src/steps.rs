@@ -5,13 +5,16 @@ use crate::header::{decode_header, Header};
 use crate::types::Channels;
 use std::fmt;
 
-/// Bytes of a record before its numbers: the message's header.
-const NUMBERS: usize = 14;
+/// Bytes of a record before its first three numbers: the message's header.
+const HEADER: usize = 14;
+
+/// Bytes between those and its last number: the current pixel and the slots.
+const PIXELS: usize = 260;
 
 /// How far a decode is: what a worker saves, so that another one can go on from there.
 ///
-/// A record comes from [`start`], from [`run`] or, out of a store, from [`Record::from_bytes`], which tests it. So whatever a run refuses, it is not
-/// the record.
+/// A record comes from [`start`], from [`run`] or, out of a store, from [`Record::from_bytes`], which tests it. So a run refuses a record for its
+/// message's number alone.
 #[derive(Clone, PartialEq, Eq, Hash)]
 pub struct Record {
     /// Zeros from `length` on.
@@ -30,26 +33,29 @@ impl Record {
         &self.bytes[..self.length]
     }
 
-    /// The record of saved bytes, tested by the proved reader; one byte more or less than were saved is refused too.
+    /// The record of saved bytes, for the message that came under `number`: tested by the proved reader; one byte more or less than were saved is
+    /// refused too.
     ///
     /// Refused: [`Error::UnexpectedBufferEnd`](crate::Error::UnexpectedBufferEnd) where it is cut short, a refusal of its header as
-    /// [`decode_header`] has it, [`Error::InvalidChannels`](crate::Error::InvalidChannels) of what it decodes to, or
-    /// [`Error::BadState`](crate::Error::BadState). A damage that leaves a record of another decode cannot be told: a store that may damage its bytes
-    /// needs a sum of its own over them.
+    /// [`decode_header`] has it, [`Error::InvalidChannels`](crate::Error::InvalidChannels) of what it decodes to,
+    /// [`Error::BadState`](crate::Error::BadState), or last of all [`Error::OtherMessage`](crate::Error::OtherMessage), a whole record of a message
+    /// with another number. A damage that leaves another record of the same message cannot be told: a store that may damage its bytes needs a sum of
+    /// its own over them.
     ///
     /// ```
     /// use pivotshade::{encode_to_vec, start, Channels, Error, Record};
     ///
-    /// let record = start(encode_to_vec([10, 20, 30], 1, 1)?, Channels::Rgb)?;
+    /// let record = start(encode_to_vec([10, 20, 30], 1, 1)?, 17, Channels::Rgb)?;
     /// let saved = record.as_bytes();
-    /// assert_eq!(Record::from_bytes(saved), Ok(record.clone()));
-    /// assert_eq!(Record::from_bytes(&saved[1..]), Err(Error::InvalidChannels { channels: 0 }));
-    /// assert_eq!(Record::from_bytes(&saved[..200]), Err(Error::UnexpectedBufferEnd));
+    /// assert_eq!(Record::from_bytes(saved, 17), Ok(record.clone()));
+    /// assert_eq!(Record::from_bytes(saved, 18), Err(Error::OtherMessage { number: 17 }));
+    /// assert_eq!(Record::from_bytes(&saved[1..], 17), Err(Error::InvalidChannels { channels: 0 }));
+    /// assert_eq!(Record::from_bytes(&saved[..200], 17), Err(Error::UnexpectedBufferEnd));
     /// # Ok::<(), pivotshade::Error>(())
     /// ```
-    pub fn from_bytes(bytes: &[u8]) -> Result<Self> {
+    pub fn from_bytes(bytes: &[u8], number: u64) -> Result<Self> {
         // a run of no steps looks at the record alone
-        match taken_up(&[], bytes, &mut [], 0, Self::read)? {
+        match taken_up(&[], number, bytes, &mut [], 0, Self::read)? {
             Ran::More(record) => Ok(record),
             Ran::Done { .. } => unreachable!("no steps end no decode"),
         }
@@ -78,6 +84,12 @@ impl Record {
         next
     }
 
+    /// The number of the message that it was started on.
+    pub fn number(&self) -> u64 {
+        let [.., number] = self.numbers();
+        number
+    }
+
     /// The header of the message that it was started on.
     pub fn header(&self) -> Header {
         decode_header(self.as_bytes()).expect("a record's header passes its test")
@@ -91,7 +103,7 @@ impl Record {
 
     /// How many pixels are done.
     pub fn pixels_done(&self) -> usize {
-        let [.., pixel] = self.numbers();
+        let [_, _, pixel, _] = self.numbers();
         pixel as usize
     }
 
@@ -110,26 +122,31 @@ impl Record {
         (self.pixels_done() + self.left) * usize::from(self.channels().as_u8())
     }
 
-    /// Wanted channels, byte position in the message, pixel: seven bits a byte, the lowest first, the top bit set on all but the last byte.
-    fn numbers(&self) -> [u64; 3] {
-        let mut bytes = self.bytes[NUMBERS..].iter();
-        [(); 3].map(|()| {
-            let (mut number, mut place) = (0, 0);
-            for byte in bytes.by_ref() {
-                number |= u64::from(byte & 0x7f) << place;
-                place += 7;
-                if byte & 0x80 == 0 {
-                    break;
-                }
-            }
-            number
-        })
+    /// Wanted channels, byte position in the message, pixel, the message's number.
+    fn numbers(&self) -> [u64; 4] {
+        let mut bytes = self.bytes[HEADER..].iter();
+        let [wanted, position, pixel] = [(); 3].map(|()| read_number(&mut bytes));
+        [wanted, position, pixel, read_number(bytes.skip(PIXELS))]
     }
+}
+
+/// A number of a record: seven bits a byte, the lowest first, the top bit set on all but the last byte.
+fn read_number<'a>(bytes: impl Iterator<Item = &'a u8>) -> u64 {
+    let (mut number, mut place) = (0, 0);
+    for byte in bytes {
+        number |= u64::from(byte & 0x7f) << place;
+        place += 7;
+        if byte & 0x80 == 0 {
+            break;
+        }
+    }
+    number
 }
 
 impl fmt::Debug for Record {
     fn fmt(&self, f: &mut fmt::Formatter) -> fmt::Result {
         f.debug_struct("Record")
+            .field("number", &self.number())
             .field("header", &self.header())
             .field("channels", &self.channels())
             .field("pixels_done", &self.pixels_done())
@@ -154,17 +171,17 @@ pub enum Ran {
     },
 }
 
-/// Starts a decode in steps, to these channels: its first record. Nothing is decoded yet.
+/// Starts a decode in steps of the message that came under `number`, to these channels: its first record. Nothing is decoded yet.
 ///
-/// Refused as [`decode_header`].
-pub fn start(message: impl AsRef<[u8]>, channels: Channels) -> Result<Record> {
+/// The number is the one that the broker gave the message, any number; every record of the decode names it. Refused as [`decode_header`].
+pub fn start(message: impl AsRef<[u8]>, number: u64, channels: Channels) -> Result<Record> {
     let mut bytes = [0; RECORD_MAX];
     let wanted = channels.as_u8().into();
-    let [length, ..] = accepted(ffi::start(message.as_ref(), wanted, &mut bytes))?;
+    let [length, ..] = accepted(ffi::start(message.as_ref(), number, wanted, &mut bytes))?;
     Ok(Record::read(bytes, length))
 }
 
-/// Goes on from a record for at most `steps` steps, a chunk each.
+/// Goes on from a record of the message that came under `number`, for at most `steps` steps, a chunk each.
 ///
 /// However the decode was cut into runs, and whichever of its records the last worker took up, its end is that of one undisturbed decode: the same
 /// answer, and the same bytes in `out`. That is proved. With as many steps as [`Record::pixels_left`] and one more, which tests the marker, it ends;
@@ -174,8 +191,9 @@ pub fn start(message: impl AsRef<[u8]>, channels: Channels) -> Result<Record> {
 ///
 /// The call cannot see these, and what it promises rests on them:
 ///
-/// - `message` is the one that the record was started on, byte for byte. Another one is not refused, and the pixels are wrong; [`Record::header`]
-///   tells at least one of another header.
+/// - `number` is the one that `message` came under, and under one number come always the same bytes: that the broker gives no number to two messages
+///   is taken for granted. Other bytes under the record's number are not refused, and the pixels are wrong; [`Record::header`] tells at least those of
+///   another header.
 /// - `out` holds, in its first [`Record::bytes_done`] bytes, what it held when the record came. From there on it may hold anything.
 ///
 /// Neither is about memory: with the wrong bytes the call is as safe, and answers nonsense.
@@ -186,6 +204,7 @@ pub fn start(message: impl AsRef<[u8]>, channels: Channels) -> Result<Record> {
 /// # What it leaves
 ///
 /// No byte of `out` before [`Record::bytes_done`] is written, and none after [`Record::required_buf_len`]. Refused:
+/// [`Error::OtherMessage`](crate::Error::OtherMessage) where the record is of a message with another number, and
 /// [`Error::OutputBufferTooSmall`](crate::Error::OutputBufferTooSmall), with `out` as it was;
 /// [`Error::UnexpectedBufferEnd`](crate::Error::UnexpectedBufferEnd) and [`Error::InvalidPadding`](crate::Error::InvalidPadding) of the message, with
 /// `out` as one undisturbed decode leaves it. After any of them the same record may be handed in again.
@@ -196,20 +215,20 @@ pub fn start(message: impl AsRef<[u8]>, channels: Channels) -> Result<Record> {
 /// let pixels: Vec<u8> = (0..=255).collect();
 /// let message = encode_to_vec(&pixels, 8, 8)?;
 ///
-/// // the first worker does ten steps, saves its record, goes on and is cut off
+/// // message 17's first worker does ten steps, saves its record, goes on and is cut off
 /// let mut out = vec![0; pixels.len()];
-/// let record = start(&message, Channels::Rgba)?;
-/// let saved = match run(&message, &record, &mut out, 10)? {
+/// let record = start(&message, 17, Channels::Rgba)?;
+/// let saved = match run(&message, 17, &record, &mut out, 10)? {
 ///     Ran::More(next) => next.as_bytes().to_vec(),
 ///     Ran::Done { .. } => unreachable!(),
 /// };
 /// out[40..].fill(0xee);
 ///
 /// // the second one goes on from the record
-/// let mut record = Record::from_bytes(&saved)?;
+/// let mut record = Record::from_bytes(&saved, 17)?;
 /// assert_eq!(record.bytes_done(), 40);
 /// let size = loop {
-///     match run(&message, &record, &mut out, 10)? {
+///     match run(&message, 17, &record, &mut out, 10)? {
 ///         Ran::More(next) => record = next,
 ///         Ran::Done { size, .. } => break size,
 ///     }
@@ -217,21 +236,35 @@ pub fn start(message: impl AsRef<[u8]>, channels: Channels) -> Result<Record> {
 /// assert_eq!(&out[..size], pixels);
 /// # Ok::<(), pivotshade::Error>(())
 /// ```
-pub fn run(message: impl AsRef<[u8]>, record: &Record, out: &mut [u8], steps: u64) -> Result<Ran> {
+pub fn run(
+    message: impl AsRef<[u8]>,
+    number: u64,
+    record: &Record,
+    out: &mut [u8],
+    steps: u64,
+) -> Result<Ran> {
     let next = |bytes, length| record.next(bytes, length);
-    taken_up(message.as_ref(), record.as_bytes(), out, steps, next)
+    taken_up(
+        message.as_ref(),
+        number,
+        record.as_bytes(),
+        out,
+        steps,
+        next,
+    )
 }
 
 /// A run from any bytes, which may be no record; `next` makes one of the bytes that it leaves.
 fn taken_up(
     message: &[u8],
+    number: u64,
     record: &[u8],
     out: &mut [u8],
     steps: u64,
     next: impl FnOnce([u8; RECORD_MAX], u64) -> Record,
 ) -> Result<Ran> {
     let mut bytes = [0; RECORD_MAX];
-    let answer = ffi::run(message, record, out, steps, &mut bytes);
+    let answer = ffi::run(message, number, record, out, steps, &mut bytes);
     if let (MORE, [length, ..]) = answer {
         return Ok(Ran::More(next(bytes, length)));
     }

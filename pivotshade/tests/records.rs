@@ -1,4 +1,4 @@
-// Records as they are, cut, lengthened and damaged in every byte.
+// Records as they are, cut, lengthened and damaged in every byte, and of other messages.
 mod common;
 
 use common::{picture, Random};
@@ -9,18 +9,28 @@ const WANTED: usize = 14;
 const POSITION: usize = 15;
 const PIXEL: usize = 16;
 const ALPHA: usize = 20;
+const NUMBER: usize = 277;
+
+/// The number of the messages here.
+const SENT: u64 = 7;
+
+/// Numbers of every length, from one byte to ten.
+fn each_length() -> impl Iterator<Item = u64> {
+    let ends = (1..64).map(|bits| 1 << bits);
+    ends.flat_map(|end| [end - 1, end]).chain([0, u64::MAX])
+}
 
 /// The record of a 1x1 message before its first chunk.
 fn first(channels: Channels) -> Vec<u8> {
     let message = encode_to_vec([0, 0, 0], 1, 1).unwrap();
-    start(message, channels).unwrap().as_bytes().to_vec()
+    start(message, SENT, channels).unwrap().as_bytes().to_vec()
 }
 
 /// What is read of a record in which the bytes from a place on are replaced by others.
 fn replaced(channels: Channels, at: usize, old: usize, new: &[u8]) -> Result<Vec<u8>, Error> {
     let mut bytes = first(channels);
     bytes.splice(at..at + old, new.iter().copied());
-    let record = Record::from_bytes(&bytes)?;
+    let record = Record::from_bytes(&bytes, SENT)?;
     assert_eq!(record.as_bytes(), bytes);
     Ok(bytes)
 }
@@ -31,6 +41,7 @@ fn first_record() {
     expected.extend([4, 14, 0]);
     expected.extend([0, 0, 0, 255]);
     expected.extend([0; 256]);
+    expected.extend([7]);
     assert_eq!(first(Channels::Rgba), expected);
 }
 
@@ -40,11 +51,12 @@ fn numbers_of_more_than_a_byte() {
     let pixels = picture(&mut random, 100_000, 3);
     let message = encode_to_vec(&pixels, 1000, 100).unwrap();
     let mut out = vec![0; 400_000];
-    let mut record = start(&message, Channels::Rgba).unwrap();
+    let mut record = start(&message, SENT, Channels::Rgba).unwrap();
     let mut longest = 0;
-    while let Ran::More(next) = run(&message, &record, &mut out, 777).unwrap() {
-        record = Record::from_bytes(next.as_bytes()).unwrap();
+    while let Ran::More(next) = run(&message, SENT, &record, &mut out, 777).unwrap() {
+        record = Record::from_bytes(next.as_bytes(), SENT).unwrap();
         assert_eq!(record, next);
+        assert_eq!(record.number(), SENT);
         assert_eq!(record.bytes_done(), 4 * record.pixels_done());
         assert_eq!(record.pixels_done() + record.pixels_left(), 100_000);
         assert_eq!(record.required_buf_len(), out.len());
@@ -53,13 +65,13 @@ fn numbers_of_more_than_a_byte() {
         assert_eq!(out[4 * at..4 * at + 3], pixels[3 * at..3 * at + 3]);
         longest = longest.max(record.as_bytes().len());
     }
-    assert_eq!(longest, 277 + 2 + 2);
+    assert_eq!(longest, 278 + 2 + 2);
     assert!(longest <= Record::MAX_LEN);
 
     // as many steps as there are chunks: every pixel is done, and the marker is still to test
     let chunks = strict(&message).unwrap().chunks as u64;
-    let record = start(&message, Channels::Rgba).unwrap();
-    let record = match run(&message, &record, &mut out, chunks).unwrap() {
+    let record = start(&message, SENT, Channels::Rgba).unwrap();
+    let record = match run(&message, SENT, &record, &mut out, chunks).unwrap() {
         Ran::More(next) => next,
         done => panic!("{done:?} before the marker"),
     };
@@ -67,16 +79,91 @@ fn numbers_of_more_than_a_byte() {
     assert_eq!(record.bytes_done(), 400_000);
     assert_eq!(record.as_bytes()[18..21], [0xa0, 0x8d, 0x06]);
     assert_eq!(
-        format!("{:?}", start(&message, Channels::Rgba).unwrap()),
-        "Record { header: Header { width: 1000, height: 100, channels: Rgb, colorspace: Srgb }, channels: Rgba, pixels_done: 0, .. }"
+        format!("{:?}", start(&message, SENT, Channels::Rgba).unwrap()),
+        "Record { number: 7, header: Header { width: 1000, height: 100, channels: Rgb, colorspace: Srgb }, channels: Rgba, pixels_done: 0, .. }"
     );
+}
+
+#[test]
+fn every_number_is_kept() {
+    let message = encode_to_vec([1, 2, 3, 4, 5, 6], 2, 1).unwrap();
+    let mut lengths = Vec::new();
+    for number in each_length() {
+        let mut out = [0; 6];
+        let record = start(&message, number, Channels::Rgb).unwrap();
+        let next = match run(&message, number, &record, &mut out, 1).unwrap() {
+            Ran::More(next) => next,
+            done => panic!("{done:?} before the second pixel"),
+        };
+        for record in [record, next.clone()] {
+            let bytes = record.as_bytes();
+            assert_eq!(record.number(), number);
+            assert_eq!(Record::from_bytes(bytes, number), Ok(record.clone()));
+            lengths.push(bytes.len());
+        }
+        let ended = Ran::Done {
+            size: out.len(),
+            used: message.len(),
+        };
+        assert_eq!(run(&message, number, &next, &mut out, 2), Ok(ended));
+        assert_eq!(out, [1, 2, 3, 4, 5, 6]);
+    }
+    lengths.sort_unstable();
+    lengths.dedup();
+    assert_eq!(lengths, (278..=287).collect::<Vec<_>>());
+}
+
+/// Read or run for any other number, a record is refused with its own, and nothing is written.
+#[test]
+fn of_another_message() {
+    let message = encode_to_vec([1, 2, 3, 4, 5, 6], 2, 1).unwrap();
+    for number in each_length() {
+        let record = start(&message, number, Channels::Rgb).unwrap();
+        let refused = Error::OtherMessage { number };
+        let one_bit_off = (0..64).map(|bit| number ^ (1 << bit));
+        let one_off = [number.wrapping_add(1), number.wrapping_sub(1)];
+        for other in one_bit_off.chain(one_off).chain([!number]) {
+            let read = Record::from_bytes(record.as_bytes(), other);
+            assert_eq!(read, Err(refused));
+            for steps in [0, 1, u64::MAX] {
+                let mut out = [0xee; 6];
+                assert_eq!(run(&message, other, &record, &mut out, steps), Err(refused));
+                assert_eq!(out, [0xee; 6]);
+            }
+        }
+    }
+}
+
+/// That it is of another message is said of a whole record alone.
+#[test]
+fn other_faults_come_before_another_number() {
+    let refused = |bytes: &[u8]| Record::from_bytes(bytes, SENT + 1).unwrap_err().number();
+    let bytes = first(Channels::Rgb);
+    assert_eq!(refused(&bytes), 12);
+    assert_eq!(refused(&[&bytes[..], &[0]].concat()), 9);
+    assert_eq!(refused(&bytes[..NUMBER]), 1);
+    for (at, byte, number) in [
+        (0, b'p', 4),
+        (WANTED, 5, 2),
+        (POSITION, 13, 9),
+        (PIXEL, 2, 9),
+    ] {
+        let mut bad = bytes.clone();
+        bad[at] = byte;
+        assert_eq!(refused(&bad), number);
+        // its number comes before the faults of its state
+        bad.truncate(NUMBER);
+        assert_eq!(refused(&bad), if number == 9 { 1 } else { number });
+    }
 }
 
 #[test]
 fn cut_at_every_byte() {
     let bytes = first(Channels::Rgba);
+    // as long as all but the number, it is a record of a format that had none
+    assert_eq!(bytes.len(), NUMBER + 1);
     for length in 0..bytes.len() {
-        let cut = Record::from_bytes(&bytes[..length]);
+        let cut = Record::from_bytes(&bytes[..length], SENT);
         assert_eq!(cut, Err(Error::UnexpectedBufferEnd));
     }
 }
@@ -86,7 +173,7 @@ fn lengthened() {
     for more in [1, 13, 14, 1000] {
         let mut bytes = first(Channels::Rgba);
         bytes.resize(bytes.len() + more, 0);
-        assert_eq!(Record::from_bytes(&bytes), Err(Error::BadState));
+        assert_eq!(Record::from_bytes(&bytes, SENT), Err(Error::BadState));
     }
 }
 
@@ -118,6 +205,16 @@ fn each_fault() {
     assert_eq!(alpha(Channels::Rgb, 254), Err(Error::BadState));
     assert_eq!(alpha(Channels::Rgba, 254), Ok(()));
 
+    let number = |new: &[u8]| replaced(Channels::Rgb, NUMBER, 1, new).map(|_| ());
+    assert_eq!(number(&[8]), Err(Error::OtherMessage { number: 8 }));
+    assert_eq!(number(&[0x87]), Err(Error::UnexpectedBufferEnd));
+    assert_eq!(number(&[0x87, 0x00]), Err(Error::BadState));
+    largest[9] = 1;
+    let most = Error::OtherMessage { number: u64::MAX };
+    assert_eq!(number(&largest), Err(most));
+    largest[9] = 2;
+    assert_eq!(number(&largest), Err(Error::BadState));
+
     let header = |at, new| replaced(Channels::Rgb, at, 1, &[new]).map(|_| ());
     let (width, height) = (0, 1);
     assert_eq!(
@@ -135,11 +232,11 @@ fn each_fault() {
 #[test]
 fn position_past_the_message() {
     let bytes = replaced(Channels::Rgb, POSITION, 1, &[0x7f]).unwrap();
-    let record = Record::from_bytes(&bytes).unwrap();
+    let record = Record::from_bytes(&bytes, SENT).unwrap();
     let message = encode_to_vec([0, 0, 0], 1, 1).unwrap();
     let mut out = [0xee; 3];
     assert_eq!(
-        run(message, &record, &mut out, 1),
+        run(message, SENT, &record, &mut out, 1),
         Err(Error::UnexpectedBufferEnd)
     );
     assert_eq!(out, [0xee; 3]);
@@ -150,8 +247,8 @@ fn position_past_the_message() {
 fn damaged_in_every_byte() {
     let message = encode_to_vec([9; 12], 2, 2).unwrap();
     let mut out = [0; 16];
-    let mut record = start(&message, Channels::Rgb).unwrap();
-    if let Ran::More(next) = run(&message, &record, &mut out, 1).unwrap() {
+    let mut record = start(&message, SENT, Channels::Rgb).unwrap();
+    if let Ran::More(next) = run(&message, SENT, &record, &mut out, 1).unwrap() {
         record = next;
     }
     assert_eq!(record.pixels_done(), 1);
@@ -161,20 +258,20 @@ fn damaged_in_every_byte() {
         for byte in 0..=255 {
             let mut bytes = record.as_bytes().to_vec();
             bytes[at] = byte;
-            match Record::from_bytes(&bytes) {
+            match Record::from_bytes(&bytes, SENT) {
                 Ok(other) => {
                     assert_eq!(other.as_bytes(), bytes);
                     let pixels = other.pixels_done() + other.pixels_left();
                     assert_eq!(pixels, other.header().n_pixels());
-                    let ran = run(&message, &other, &mut out, 0);
+                    let ran = run(&message, SENT, &other, &mut out, 0);
                     assert_eq!(ran, Ok(Ran::More(other.clone())));
-                    if let Err(error) = run(&message, &other, &mut out, u64::MAX) {
+                    if let Err(error) = run(&message, SENT, &other, &mut out, u64::MAX) {
                         assert!([1, 7, 8].contains(&error.number()));
                     }
                     read += 1;
                 }
                 Err(error) => {
-                    assert!([1, 2, 3, 4, 5, 9].contains(&error.number()));
+                    assert!([1, 2, 3, 4, 5, 9, 12].contains(&error.number()));
                     refused += 1;
                 }
             }

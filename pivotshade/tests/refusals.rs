@@ -3,7 +3,7 @@ mod common;
 
 use common::{header, message};
 use pivotshade::{
-    decode_header, decode_to_buf, decode_to_vec, encode_to_buf, encode_to_vec, start, strict,
+    decode_header, decode_to_buf, decode_to_vec, encode_to_buf, encode_to_vec, run, start, strict,
     Channels, ColorSpace, Encoder, Error, Header, Record, Table,
 };
 
@@ -143,10 +143,10 @@ fn invalid_padding() {
 
 #[test]
 fn bad_state() {
-    let record = start(message(1, 3, &[0xc0]), Channels::Rgb).unwrap();
+    let record = start(message(1, 3, &[0xc0]), 17, Channels::Rgb).unwrap();
     let longer = [record.as_bytes(), &[0]].concat();
     is(
-        Record::from_bytes(&longer).unwrap_err(),
+        Record::from_bytes(&longer, 17).unwrap_err(),
         Error::BadState,
         9,
         [0; 4],
@@ -179,6 +179,25 @@ fn bytes_after_marker() {
         [0; 4],
         "invalid length (bytes after the stream end marker)",
     );
+}
+
+#[test]
+fn other_message() {
+    let sent = message(1, 3, &[0xc0]);
+    let record = start(&sent, 17, Channels::Rgb).unwrap();
+    let error = Error::OtherMessage { number: 17 };
+    is(
+        Record::from_bytes(record.as_bytes(), 18).unwrap_err(),
+        error,
+        12,
+        [17, 0, 0, 0],
+        "record of another message: 17",
+    );
+    let mut out = [0xee; 3];
+    assert_eq!(run(&sent, 18, &record, &mut out, 9), Err(error));
+    // the output's fault comes after the record's
+    assert_eq!(run(&sent, 18, &record, &mut out[..2], 9), Err(error));
+    assert_eq!(out, [0xee; 3]);
 }
 
 #[test]
@@ -250,6 +269,10 @@ fn figures_of_any_size_have_words() {
         (
             Error::InvalidMagic { magic: u32::MAX },
             "invalid magic: expected 1903126886, got [255, 255, 255, 255]",
+        ),
+        (
+            Error::OtherMessage { number: u64::MAX },
+            "record of another message: 18446744073709551615",
         ),
         (
             Error::InvalidHour { hour: u64::MAX },

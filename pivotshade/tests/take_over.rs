@@ -4,6 +4,9 @@ mod common;
 use common::{picture, Random};
 use pivotshade::{encode_to_vec, run, start, Channels, Decoder, Error, Ran, Record, Result};
 
+/// The number of the messages here; another test tries others.
+const NUMBER: u64 = 17;
+
 /// The size and the bytes used of a whole decode over `out`.
 fn undisturbed(message: &[u8], channels: Channels, out: &mut [u8]) -> Result<(usize, usize)> {
     let mut decoder = Decoder::new(message)?.with_channels(channels);
@@ -13,7 +16,7 @@ fn undisturbed(message: &[u8], channels: Channels, out: &mut [u8]) -> Result<(us
 
 /// The bytes that a saved record says are done.
 fn done(saved: &[u8]) -> usize {
-    Record::from_bytes(saved).unwrap().bytes_done()
+    Record::from_bytes(saved, NUMBER).unwrap().bytes_done()
 }
 
 /// Random runs, with the output scribbled over from the record's pixel on before some, and with old records taken up: the end, and what the output
@@ -24,7 +27,8 @@ fn disturbed(
     channels: Channels,
     out: &mut [u8],
 ) -> (Result<(usize, usize)>, Vec<u8>) {
-    let mut saved = vec![start(message, channels).unwrap().as_bytes().to_vec()];
+    let first = start(message, NUMBER, channels).unwrap();
+    let mut saved = vec![first.as_bytes().to_vec()];
     let mut found = out.to_vec();
     loop {
         // most often the last one, so that it gets on
@@ -32,8 +36,8 @@ fn disturbed(
             0 => random.below(saved.len()),
             _ => saved.len() - 1,
         };
-        let record = Record::from_bytes(&saved[taken]).unwrap();
-        assert_eq!(record.channels(), channels);
+        let record = Record::from_bytes(&saved[taken], NUMBER).unwrap();
+        assert_eq!((record.number(), record.channels()), (NUMBER, channels));
         if random.below(2) == 0 {
             random.fill(&mut out[record.bytes_done()..]);
             // of those that are further on, the output before their pixel is lost
@@ -42,7 +46,7 @@ fn disturbed(
         let before = out[..record.bytes_done()].to_vec();
         found.copy_from_slice(out);
         let steps = random.next() >> (52 + random.below(12));
-        let ran = run(message, &record, out, steps);
+        let ran = run(message, NUMBER, &record, out, steps);
         assert_eq!(out[..record.bytes_done()], before);
         match ran {
             Ok(Ran::More(next)) => {
@@ -108,11 +112,11 @@ fn step_by_step() {
     let message = encode_to_vec(&picture, 20, 25).unwrap();
     let chunks = pivotshade::strict(&message).unwrap().chunks;
     let mut out = vec![0; picture.len()];
-    let mut record = start(&message, Channels::Rgba).unwrap();
+    let mut record = start(&message, NUMBER, Channels::Rgba).unwrap();
     assert_eq!((record.pixels_done(), record.bytes_done()), (0, 0));
     assert_eq!(record.required_buf_len(), picture.len());
     for _ in 0..chunks {
-        record = match run(&message, &record, &mut out, 1).unwrap() {
+        record = match run(&message, NUMBER, &record, &mut out, 1).unwrap() {
             Ran::More(next) => next,
             done => panic!("{done:?} before the marker"),
         };
@@ -124,19 +128,21 @@ fn step_by_step() {
         size: picture.len(),
         used: message.len(),
     };
-    assert_eq!(run(&message, &record, &mut out, 1), Ok(done.clone()));
-    assert_eq!(run(&message, &record, &mut out, u64::MAX), Ok(done));
+    for steps in [1, u64::MAX] {
+        let ran = run(&message, NUMBER, &record, &mut out, steps);
+        assert_eq!(ran, Ok(done.clone()));
+    }
     assert_eq!(out, picture);
 }
 
 #[test]
 fn output_too_small_is_left_as_it_was() {
     let message = encode_to_vec([1, 2, 3, 4, 5, 6], 2, 1).unwrap();
-    let record = start(&message, Channels::Rgb).unwrap();
+    let record = start(&message, NUMBER, Channels::Rgb).unwrap();
     let mut out = [0xee; 5];
     let (size, required) = (5, 6);
     assert_eq!(
-        run(&message, &record, &mut out, 9),
+        run(&message, NUMBER, &record, &mut out, 9),
         Err(Error::OutputBufferTooSmall { size, required })
     );
     assert_eq!(out, [0xee; 5]);
@@ -144,9 +150,9 @@ fn output_too_small_is_left_as_it_was() {
 
 #[test]
 fn start_refuses_as_the_header() {
-    let refused = start([], Channels::Rgb);
+    let refused = start([], NUMBER, Channels::Rgb);
     assert_eq!(refused, Err(Error::UnexpectedBufferEnd));
-    let refused = start(common::header(b"qoif", 0, 1, 3, 0), Channels::Rgb);
+    let refused = start(common::header(b"qoif", 0, 1, 3, 0), NUMBER, Channels::Rgb);
     let (width, height) = (0, 1);
     assert_eq!(
         refused,
