@@ -71,7 +71,8 @@ fn measure(worker: &str, folder: &Path, name: &str, field: Vec<u8>) -> Answer<()
                     .arg("decode")
                     .args([&message, &output])
                     .arg("--record")
-                    .arg(&record),
+                    .arg(&record)
+                    .args(["--number", "1"]),
                 1 => command.arg("plain").args([&message, &output]).arg("no"),
                 _ => command.arg("plain").args([&message, &output]).arg("flush"),
             };

@@ -66,6 +66,7 @@ pub fn parse(arguments: impl IntoIterator<Item = OsString>) -> Result<Command, F
         },
         "decode" => Command::Decode(decode::Job {
             record: given.file("--record")?,
+            number: given.needed_number("--number")?,
             every: match given.number("--every")? {
                 Some(0) => return Err(Failure::usage("--every takes a number from 1 on")),
                 Some(every) => every,
@@ -108,10 +109,11 @@ fn missing(what: &str) -> Failure {
 }
 
 /// Options that take a value, and those that take none.
-const WITH_VALUE: [&str; 7] = [
+const WITH_VALUE: [&str; 8] = [
     "--width",
     "--height",
     "--record",
+    "--number",
     "--every",
     "--channels",
     "--hour",
@@ -238,19 +240,24 @@ mod tests {
             message: "m".into(),
             output: "o".into(),
             record: "r".into(),
+            number: 17,
             every: 10,
             channels: Some(Channels::Rgb),
             restart: true,
         };
-        let line = "decode --every 10 m --record r --restart o --channels 3";
+        let line = "decode --every 10 m --record r --restart --number 17 o --channels 3";
         assert_eq!(parsed(line), Ok(Command::Decode(job.clone())));
-        let plain = decode::Job {
-            every: EVERY,
-            channels: None,
-            restart: false,
-            ..job
-        };
-        assert_eq!(parsed("decode m o --record r"), Ok(Command::Decode(plain)));
+        for number in [0, 127, 128, 1 << 63, u64::MAX] {
+            let plain = decode::Job {
+                number,
+                every: EVERY,
+                channels: None,
+                restart: false,
+                ..job.clone()
+            };
+            let line = format!("decode m o --record r --number {number}");
+            assert_eq!(parsed(&line), Ok(Command::Decode(plain)));
+        }
         assert_eq!(
             parsed("encode p m --width 2 --height 3 --linear"),
             Ok(Command::Encode {
@@ -282,26 +289,37 @@ mod tests {
     fn wrong_arguments_are_named() {
         assert_eq!(words(""), "the command is missing");
         assert_eq!(words("recode m"), "there is no command recode");
-        assert_eq!(words("decode m o"), "--record is missing");
-        assert_eq!(words("decode m --record r"), "OUTPUT is missing");
+        assert_eq!(words("decode m o --number 1"), "--record is missing");
+        assert_eq!(words("decode m o --record r"), "--number is missing");
+        assert_eq!(words("decode m --record r --number 1"), "OUTPUT is missing");
+        for number in ["x", "-1", "1.5", "18446744073709551616"] {
+            assert_eq!(
+                words(&format!("decode m o --record r --number {number}")),
+                format!("--number does not take {number}")
+            );
+        }
         assert_eq!(
             words("decode m o --record"),
             "what --record takes is missing"
         );
         assert_eq!(
-            words("decode m o --record r --every 0"),
+            words("decode m o --record r --number 1 --every 0"),
             "--every takes a number from 1 on"
         );
         assert_eq!(
-            words("decode m o --record r --every x"),
+            words("decode m o --record r --number 1 --every x"),
             "--every does not take x"
         );
         assert_eq!(
-            words("decode m o --record r --channels 5"),
+            words("decode m o --record r --number 1 --channels 5"),
             "--channels takes 3 or 4"
         );
-        assert_eq!(words("decode m o p --record r"), "decode does not take p");
+        assert_eq!(
+            words("decode m o p --record r --number 1"),
+            "decode does not take p"
+        );
         assert_eq!(words("check m --restart"), "check does not take --restart");
+        assert_eq!(words("check m --number 1"), "check does not take --number");
         assert_eq!(words("check m --wrong"), "there is no option --wrong");
         assert_eq!(
             words("decode m o --record r --record s"),

@@ -7,7 +7,7 @@ use crate::disk::{folder, read_if_there, Disk};
 use crate::failure::Failure;
 use crate::memory::zeros;
 use crate::saved;
-use pivotshade::{decode_header, run, start, Channels, Ran, Record};
+use pivotshade::{decode_header, run, start, Channels, Error, Ran, Record};
 use std::io::{self, ErrorKind};
 use std::path::PathBuf;
 
@@ -29,6 +29,8 @@ pub struct Job {
     pub output: PathBuf,
     /// The path of the record.
     pub record: PathBuf,
+    /// The number that the broker gave the message.
+    pub number: u64,
     /// How many steps lie between two records, at least 1.
     pub every: u64,
     /// The channels to decode to: the header's own where none are given.
@@ -51,7 +53,7 @@ pub fn decode<D: Disk>(
         Some(channels) => channels,
         None => decode_header(&message).map_err(refused)?.channels,
     };
-    let first = start(&message, channels).map_err(refused)?;
+    let first = start(&message, job.number, channels).map_err(refused)?;
     let mut worker = Worker::new(disk, job, &message, first)?;
     let answer = worker.work(&message, progress)?;
     // all is done: what cannot be swept away does no harm
@@ -121,7 +123,7 @@ impl<'a, D: Disk> Worker<'a, D> {
         let mut at_once = AT_ONCE;
         loop {
             let steps = self.steps(at_once);
-            match run(message, &self.record, &mut self.out, steps) {
+            match run(message, self.job.number, &self.record, &mut self.out, steps) {
                 Ok(Ran::More(next)) => {
                     self.go_on(next, steps)?;
                     progress(&self.record);
@@ -201,7 +203,8 @@ impl<'a, D: Disk> Worker<'a, D> {
     }
 }
 
-/// The record that a worker on this message and these channels has saved.
+/// The record that a worker on this message and these channels has saved. That the bytes are the message's is looked at too, as a test of the broker: it
+/// gives one number to the same bytes alone.
 fn saved_record<D: Disk>(
     disk: &D,
     job: &Job,
@@ -214,9 +217,12 @@ fn saved_record<D: Disk>(
         Some(bytes) => bytes,
         None => return Ok(None),
     };
-    let (record, sum) = saved::from_bytes(&bytes).ok_or_else(|| bad("the record is damaged"))?;
+    let (record, sum) = saved::from_bytes(&bytes, job.number).map_err(|error| match error {
+        Error::OtherMessage { number } => Failure::other_message(&job.record, number),
+        _ => bad("the record is damaged, or names no message"),
+    })?;
     if sum != message_sum || record.header() != first.header() {
-        return Err(bad("the record is of another message"));
+        return Err(bad("the record is of other bytes under the same number"));
     }
     if record.channels() != first.channels() {
         return Err(bad("the record is of a decode to other channels"));

@@ -45,6 +45,17 @@ impl Failure {
         }
     }
 
+    /// The record at `path` is of the message with this number, which is another one.
+    pub fn other_message(path: &Path, number: u64) -> Self {
+        Self {
+            status: Error::OtherMessage { number }.number() as u8,
+            words: format!(
+                "{}: the record is of another message, number {number}; --restart begins anew",
+                path.display()
+            ),
+        }
+    }
+
     /// What the file at `path` holds is no table as a worker left it.
     pub fn bad_table(path: &Path) -> Self {
         Self {

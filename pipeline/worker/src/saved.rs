@@ -1,6 +1,6 @@
 //! What stands in the record's file: the record's bytes, a sum over the message, and a sum over both, eight bytes each, the lowest first. So a
-//! record that was damaged, or saved for another message, is told from a good one, which the record alone cannot do.
-use pivotshade::Record;
+//! record that was damaged, or saved for other bytes under the same number, is told from a good one, which the record alone cannot do.
+use pivotshade::{Error, Record, Result};
 
 /// Bytes of a sum.
 pub const SUM: usize = 8;
@@ -13,10 +13,12 @@ pub fn to_bytes(record: &Record, message_sum: u64) -> Vec<u8> {
     bytes
 }
 
-/// The record and the sum of its message; none where a byte of the file is not what was written.
-pub fn from_bytes(bytes: &[u8]) -> Option<(Record, u64)> {
-    let (record, message_sum) = split_sum(before_sum(bytes)?)?;
-    Some((Record::from_bytes(record).ok()?, message_sum))
+/// The record of the message that came under `number`, and the sum of that message. Refused as [`Record::from_bytes`], and with
+/// [`Error::BadState`] where a byte of the file is not what was written.
+pub fn from_bytes(bytes: &[u8], number: u64) -> Result<(Record, u64)> {
+    let parts = before_sum(bytes).and_then(split_sum);
+    let (record, message_sum) = parts.ok_or(Error::BadState)?;
+    Ok((Record::from_bytes(record, number)?, message_sum))
 }
 
 /// Adds a sum at the end, over all that stands before it.
@@ -87,12 +89,28 @@ pub(crate) mod tests {
     #[test]
     fn one_changed_bit_is_seen() {
         let message = encode_to_vec([1, 2, 3, 4], 1, 1).unwrap();
-        let record = start(&message, Channels::Rgba).unwrap();
+        let record = start(&message, 17, Channels::Rgba).unwrap();
         let good = to_bytes(&record, sum(&message));
-        assert_eq!(from_bytes(&good), Some((record, sum(&message))));
+        assert_eq!(from_bytes(&good, 17), Ok((record, sum(&message))));
+        let other = Error::OtherMessage { number: 17 };
+        assert_eq!(from_bytes(&good, 16), Err(other));
         for (what, bad) in damaged(&good) {
-            assert_eq!(from_bytes(&bad), None, "{what}");
+            // the damage comes before the number, whichever is expected
+            for number in [16, 17] {
+                assert_eq!(from_bytes(&bad, number), Err(Error::BadState), "{what}");
+            }
         }
+    }
+
+    #[test]
+    fn a_record_without_a_number_is_cut_short() {
+        let message = encode_to_vec([1, 2, 3, 4], 1, 1).unwrap();
+        let record = start(&message, 17, Channels::Rgba).unwrap();
+        let (_, without) = record.as_bytes().split_last().unwrap();
+        let mut bytes = [without, &sum(&message).to_le_bytes()].concat();
+        add_sum(&mut bytes);
+        let refused = from_bytes(&bytes, 17);
+        assert_eq!(refused, Err(Error::UnexpectedBufferEnd));
     }
 
     #[test]

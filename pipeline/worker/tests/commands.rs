@@ -9,7 +9,9 @@ use worker::saved;
 
 const WIDTH: u32 = 40;
 const HEIGHT: u32 = 30;
-const DECODE: &str = "decode m.qoi out --record rec --every 50";
+const DECODE: &str = "decode m.qoi out --record rec --number 17 --every 50";
+/// The same for the next message.
+const DECODE_NEXT: &str = "decode m.qoi out --record rec --number 18 --every 50";
 
 /// A picture with runs, repeats and changes of each size.
 fn picture() -> Vec<u8> {
@@ -31,7 +33,7 @@ fn decoded(test: &str) -> Folder {
 }
 
 fn pixels_done(folder: &Folder) -> usize {
-    let (record, _) = saved::from_bytes(&folder.read("rec")).expect("a whole record");
+    let (record, _) = saved::from_bytes(&folder.read("rec"), 17).expect("a whole record");
     record.pixels_done()
 }
 
@@ -56,14 +58,14 @@ fn encodes_checks_and_decodes() {
 fn decodes_to_other_channels() {
     let folder = Folder::new("channels");
     folder.write("m.qoi", &message());
-    folder.works("decode m.qoi out --record rec --channels 3");
+    folder.works("decode m.qoi out --record rec --number 17 --channels 3");
     let message = message();
     let mut decoder = Decoder::new(&message).unwrap().with_channels(Channels::Rgb);
     let three = decoder.decode_to_vec().unwrap();
     assert_eq!(folder.read("out"), three);
     let words = "rec: the record is of a decode to other channels; --restart begins anew";
-    folder.refuses("decode m.qoi out --record rec", 9, words);
-    folder.works("decode m.qoi out --record rec --restart");
+    folder.refuses(DECODE, 9, words);
+    folder.works(&format!("{DECODE} --restart"));
     assert_eq!(folder.read("out"), picture());
 }
 
@@ -154,7 +156,7 @@ fn a_refused_header_leaves_no_file() {
 
 #[test]
 fn a_damaged_record_is_refused_and_restarted() {
-    let words = "rec: the record is damaged; --restart begins anew";
+    let words = "rec: the record is damaged, or names no message; --restart begins anew";
     let good = decoded("damaged-good").read("rec");
     let mut flipped = good.clone();
     flipped[100] ^= 4;
@@ -165,27 +167,83 @@ fn a_damaged_record_is_refused_and_restarted() {
         let folder = decoded(&format!("damaged-{place}"));
         folder.write("rec", bad);
         folder.write("out", &[0xee; 4800]);
-        folder.refuses(DECODE, 9, words);
-        assert_eq!(folder.read("out"), [0xee; 4800]);
-        assert_eq!(folder.read("rec"), bad);
+        // whichever message is asked for
+        for line in [DECODE, DECODE_NEXT] {
+            folder.refuses(line, 9, words);
+            assert_eq!(folder.read("out"), [0xee; 4800]);
+            assert_eq!(folder.read("rec"), bad);
+        }
         folder.works(&format!("{DECODE} --restart"));
         assert_eq!(folder.read("out"), picture());
         assert_eq!(folder.read("rec"), good);
     }
 }
 
+/// The previous hour's record, whose field has the same size: whether its output is there or not, both files stay as they are.
 #[test]
 fn a_record_of_another_message_is_refused() {
     let folder = decoded("another");
-    let mut other = message();
-    other.push(0);
-    folder.write("m.qoi", &other);
-    folder.refuses(
-        DECODE,
-        9,
-        "rec: the record is of another message; --restart begins anew",
+    let words = "rec: the record is of another message, number 17; --restart begins anew";
+    let mut next = picture();
+    next.rotate_left(WIDTH as usize * 4);
+    folder.write("m.qoi", &encode_to_vec(&next, WIDTH, HEIGHT).unwrap());
+    let record = folder.read("rec");
+    folder.refuses(DECODE_NEXT, 12, words);
+    assert_eq!(
+        (folder.read("out"), folder.read("rec")),
+        (picture(), record)
     );
-    assert_eq!(folder.read("out"), picture());
+    // the number alone tells it: another header, other channels and another length come after
+    folder.write("m.qoi", &encode_to_vec([7; 12], 2, 2).unwrap());
+    folder.refuses(DECODE_NEXT, 12, words);
+    folder.write("m.qoi", &message());
+    folder.refuses(&format!("{DECODE_NEXT} --channels 3"), 12, words);
+    fs::remove_file(folder.path("out")).unwrap();
+    folder.refuses(DECODE_NEXT, 12, words);
+    assert_eq!(folder.names(), ["m.qoi", "rec"]);
+
+    folder.write("m.qoi", &encode_to_vec(&next, WIDTH, HEIGHT).unwrap());
+    folder.works(&format!("{DECODE_NEXT} --restart"));
+    assert_eq!(folder.read("out"), next);
+    let words = "rec: the record is of another message, number 18; --restart begins anew";
+    folder.refuses(DECODE, 12, words);
+    folder.works(DECODE_NEXT);
+}
+
+/// The broker gives one number to the same bytes alone; where it does not, the sum of the message tells it.
+#[test]
+fn other_bytes_under_the_same_number_are_refused() {
+    let folder = decoded("other-bytes");
+    let words = "rec: the record is of other bytes under the same number; --restart begins anew";
+    let longer = [message(), vec![0]].concat();
+    let record = folder.read("rec");
+    for other in [longer, encode_to_vec([7; 12], 2, 2).unwrap()] {
+        folder.write("m.qoi", &other);
+        for line in [DECODE.to_owned(), format!("{DECODE} --channels 3")] {
+            folder.refuses(&line, 9, words);
+        }
+    }
+    assert_eq!(
+        (folder.read("out"), folder.read("rec")),
+        (picture(), record)
+    );
+}
+
+#[test]
+fn every_number_is_taken_up_again() {
+    for number in [0, 1 << 63, u64::MAX] {
+        let folder = Folder::new(&format!("number-{number}"));
+        folder.write("m.qoi", &message());
+        let line = format!("decode m.qoi out --record rec --number {number}");
+        for _ in 0..2 {
+            folder.works(&line);
+            assert_eq!(folder.read("out"), picture());
+        }
+        let words = format!(
+            "rec: the record is of another message, number {number}; --restart begins anew"
+        );
+        folder.refuses(DECODE, 12, &words);
+    }
 }
 
 #[test]
@@ -227,9 +285,13 @@ fn only_ordinary_files_are_written() {
     symlink("nowhere", folder.path("loose")).unwrap();
     for other in ["folder", "link", "loose", "/dev/null"] {
         let words = format!("{other} is no ordinary file");
-        folder.refuses(&format!("decode m.qoi {other} --record new"), 74, &words);
         folder.refuses(
-            &format!("decode m.qoi new --record {other} --restart"),
+            &format!("decode m.qoi {other} --record new --number 17"),
+            74,
+            &words,
+        );
+        folder.refuses(
+            &format!("decode m.qoi new --record {other} --number 17 --restart"),
             74,
             &words,
         );
@@ -250,12 +312,12 @@ fn wrong_arguments_and_files() {
     let folder = Folder::new("wrong");
     folder.write("m.qoi", &message());
     folder.refuses(
-        "decode m.qoi m.qoi --record rec",
+        "decode m.qoi m.qoi --record rec --number 17",
         64,
         "m.qoi is given twice",
     );
     folder.refuses(
-        "decode m.qoi out --record ./out",
+        "decode m.qoi out --record ./out --number 17",
         64,
         "./out is given twice",
     );
@@ -266,16 +328,18 @@ fn wrong_arguments_and_files() {
     );
     fs::hard_link(folder.path("m.qoi"), folder.path("linked")).unwrap();
     folder.refuses(
-        "decode m.qoi linked --record rec",
+        "decode m.qoi linked --record rec --number 17",
         64,
         "linked is given twice",
     );
     let words = "OUTPUT is missing; worker --help says what it takes";
-    folder.refuses("decode m.qoi --record rec", 64, words);
+    folder.refuses("decode m.qoi --record rec --number 17", 64, words);
+    let words = "--number is missing; worker --help says what it takes";
+    folder.refuses("decode m.qoi out --record rec", 64, words);
     let none = "none: cannot read: No such file or directory (os error 2)";
-    folder.refuses("decode none out --record rec", 74, none);
+    folder.refuses("decode none out --record rec --number 17", 74, none);
     folder.refuses("check none", 74, none);
-    let (status, _, words) = folder.worker("decode m.qoi none/out --record rec");
+    let (status, _, words) = folder.worker("decode m.qoi none/out --record rec --number 17");
     assert_eq!(
         (status, words.starts_with("worker: none/out: cannot make: ")),
         (74, true)
