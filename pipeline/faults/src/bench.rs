@@ -24,6 +24,7 @@ pub struct Bench {
 /// How to start a worker.
 #[derive(Clone, Copy)]
 pub struct Order {
+    pub number: u64,
     pub every: usize,
     pub channels: Channels,
     pub restart: bool,
@@ -93,6 +94,7 @@ impl Bench {
         let mut command = Command::new(&self.worker);
         command.arg("decode").arg(&self.message).arg(&self.output);
         command.arg("--record").arg(&self.record);
+        command.args(["--number", &order.number.to_string()]);
         command.args(["--every", &order.every.to_string()]);
         command.args(["--channels", &order.channels.as_u8().to_string()]);
         if order.restart {

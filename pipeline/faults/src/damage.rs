@@ -1,15 +1,17 @@
-//! Records and outputs that are not what a worker left: the worker refuses to go on, touches neither, and does it all with --restart.
+//! Records and outputs that are not what a worker left, or left of another message: the worker refuses to go on, touches neither, and does it all with
+//! --restart.
 use crate::bench::{wait, Bench, Order, Pair};
 use crate::pictures::FAMILIES;
 use crate::random::Random;
-use crate::undisturbed::{checked_output, some_decode, Undisturbed};
+use crate::undisturbed::{another_hour, another_number, checked_output, some_decode, Undisturbed};
 use pivotshade::{start, Channels};
 use std::thread::sleep;
 use std::time::Duration;
 use worker::saved;
 
-/// The number of the refusal of a record.
+/// The numbers of the refusals of a record.
 const BAD_RECORD: i32 = 9;
+const OTHER_MESSAGE: i32 = 12;
 
 /// What is not as a worker left it.
 #[derive(Clone, Copy, Debug)]
@@ -17,9 +19,13 @@ enum Damage {
     RecordFlipped,
     RecordCut,
     RecordLonger,
-    /// The record is of another message.
+    /// The record, with its output, is the previous hour's, whose message has the same header: the number alone tells it.
+    PreviousHour,
+    /// The record is of another message, with another header.
     OtherMessage,
-    /// The same, of one that differs in a bit after the header: the sum alone tells it.
+    /// The record is of other bytes under the same number.
+    OtherBytes,
+    /// The same, of such that differ in a bit after the header: the sum alone tells it.
     OtherBit,
     OutputCut,
     OutputGone,
@@ -27,53 +33,120 @@ enum Damage {
     OtherChannels,
 }
 
-const DAMAGES: [Damage; 8] = [
+const DAMAGES: [Damage; 10] = [
     Damage::RecordFlipped,
     Damage::RecordCut,
     Damage::RecordLonger,
+    Damage::PreviousHour,
     Damage::OtherMessage,
+    Damage::OtherBytes,
     Damage::OtherBit,
     Damage::OutputCut,
     Damage::OutputGone,
     Damage::OtherChannels,
 ];
 
-/// Does each damage so many times: how many there were in all.
-pub fn damage(bench: &Bench, random: &mut Random, times: usize) -> Result<usize, String> {
+/// What was refused.
+#[derive(Default)]
+pub struct Refused {
+    pub all: usize,
+    /// Those that are of another message, and whole.
+    pub other_messages: usize,
+}
+
+/// Does each damage so many times.
+pub fn damage(bench: &Bench, random: &mut Random, times: usize) -> Result<Refused, String> {
+    let mut counts = Refused::default();
     for damage in DAMAGES.iter().cycle().take(DAMAGES.len() * times) {
         let mut decode = begun_decode(random);
         let mut pair = begun(bench, random, &decode)?;
-        damage.done(random, &mut decode, &mut pair);
-        refused(bench, &decode, &pair).map_err(|words| format!("{damage:?}: {words}"))?;
+        let refusal = damage.done(random, &mut decode, &mut pair);
+        refused(bench, &decode, &pair, &refusal).map_err(|words| format!("{damage:?}: {words}"))?;
+        counts.all += 1;
+        counts.other_messages += usize::from(refusal.status == OTHER_MESSAGE);
     }
-    Ok(DAMAGES.len() * times)
+    Ok(counts)
 }
+
+/// How a worker must end, and what its words must have in them.
+struct Refusal {
+    status: i32,
+    words: String,
+}
+
+impl Refusal {
+    fn bad(words: &str) -> Self {
+        Self {
+            status: BAD_RECORD,
+            words: words.to_owned(),
+        }
+    }
+
+    /// Of the record of the message with this number.
+    fn other_message(number: u64) -> Self {
+        Self {
+            status: OTHER_MESSAGE,
+            words: format!("the record is of another message, number {number};"),
+        }
+    }
+}
+
+const DAMAGED: &str = "the record is damaged";
+const OTHER_BYTES: &str = "the record is of other bytes under the same number";
 
 impl Damage {
     /// Does it to the pair, or to the decode that is asked for.
-    fn done(self, random: &mut Random, decode: &mut Undisturbed, pair: &mut Pair) {
+    fn done(self, random: &mut Random, decode: &mut Undisturbed, pair: &mut Pair) -> Refusal {
         let record = pair.record.as_mut().expect("a worker left it");
         let output = pair.output.as_mut().expect("a worker left it");
         match self {
             Self::RecordFlipped => {
                 let place = random.below(record.len());
                 record[place] ^= 1 << random.below(8);
+                Refusal::bad(DAMAGED)
             }
-            Self::RecordCut => record.truncate(random.below(record.len())),
-            Self::RecordLonger => record.push(random.next() as u8),
+            Self::RecordCut => {
+                record.truncate(random.below(record.len()));
+                Refusal::bad(DAMAGED)
+            }
+            Self::RecordLonger => {
+                record.push(random.next() as u8);
+                Refusal::bad(DAMAGED)
+            }
+            Self::PreviousHour => {
+                let previous = decode.number;
+                *decode = another_hour(random, decode);
+                Refusal::other_message(previous)
+            }
             Self::OtherMessage => {
                 let another = begun_decode(random);
-                *record = first_record(&another.message, decode.channels);
+                let number = another_number(random, decode.number);
+                *record = first_record(&another.message, number, decode.channels);
+                Refusal::other_message(number)
+            }
+            Self::OtherBytes => {
+                let another = begun_decode(random);
+                *record = first_record(&another.message, decode.number, decode.channels);
+                Refusal::bad(OTHER_BYTES)
             }
             Self::OtherBit => {
                 let mut another = decode.message.clone();
                 *another.last_mut().expect("it has chunks") ^= 1 << random.below(8);
-                *record = first_record(&another, decode.channels);
+                *record = first_record(&another, decode.number, decode.channels);
+                Refusal::bad(OTHER_BYTES)
             }
-            Self::OutputCut => output.truncate(random.below(output.len())),
-            Self::OutputGone => pair.output = None,
+            Self::OutputCut => {
+                output.truncate(random.below(output.len()));
+                Refusal::bad("the output has another length")
+            }
+            Self::OutputGone => {
+                pair.output = None;
+                Refusal::bad("the output is not there")
+            }
             Self::OtherChannels => {
-                *decode = Undisturbed::new(decode.message.clone(), other(decode.channels));
+                let channels = other(decode.channels);
+                *decode = Undisturbed::new(decode.message.clone(), decode.number, channels);
+                Refusal::bad("the record is of a decode to other channels")
             }
         }
     }
@@ -101,6 +174,7 @@ fn begun_decode(random: &mut Random) -> Undisturbed {
 /// What a worker left that was killed once it had done some pixels, or that has ended.
 fn begun(bench: &Bench, random: &mut Random, decode: &Undisturbed) -> Result<Pair, String> {
     let order = Order {
+        number: decode.number,
         every: random.between(100, 3000),
         channels: decode.channels,
         restart: false,
@@ -112,9 +186,9 @@ fn begun(bench: &Bench, random: &mut Random, decode: &Undisturbed) -> Result<Pai
     let _ = worker.kill();
     wait(worker)?;
     let pair = bench.pair()?;
-    let record = pair.record.as_deref().and_then(saved::from_bytes);
-    match record {
-        Some((record, _)) if record.pixels_done() > 0 => Ok(pair),
+    let record = pair.record.as_deref();
+    match record.map(|bytes| saved::from_bytes(bytes, decode.number)) {
+        Some(Ok((record, _))) if record.pixels_done() > 0 => Ok(pair),
         _ => {
             bench.work(order)?;
             bench.pair()
@@ -123,21 +197,28 @@ fn begun(bench: &Bench, random: &mut Random, decode: &Undisturbed) -> Result<Pai
 }
 
 /// What a worker saves first.
-fn first_record(message: &[u8], channels: Channels) -> Vec<u8> {
-    let first = start(message, channels).expect("its header is good");
+fn first_record(message: &[u8], number: u64, channels: Channels) -> Vec<u8> {
+    let first = start(message, number, channels).expect("its header is good");
     saved::to_bytes(&first, saved::sum(message))
 }
 
-/// Puts the pair there, and looks at what workers do, without --restart and with it.
-fn refused(bench: &Bench, decode: &Undisturbed, pair: &Pair) -> Result<(), String> {
+/// Puts the message and the pair there, and looks at what workers do, without --restart and with it.
+fn refused(
+    bench: &Bench,
+    decode: &Undisturbed,
+    pair: &Pair,
+    refusal: &Refusal,
+) -> Result<(), String> {
+    bench.put(decode, None)?;
     bench.put_pair(pair)?;
     let order = Order {
+        number: decode.number,
         every: 1000,
         channels: decode.channels,
         restart: false,
     };
     let ended = bench.work(order)?;
-    if ended.status != Some(BAD_RECORD) || !ended.words.starts_with("worker: ") {
+    if ended.status != Some(refusal.status) || !ended.words.contains(&refusal.words) {
         return Err(format!(
             "status {:?}, words {:?}",
             ended.status, ended.words

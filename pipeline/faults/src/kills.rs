@@ -101,6 +101,7 @@ impl<'a> History<'a> {
             counts,
             decode,
             order: Order {
+                number: decode.number,
                 every: every.max(EVERY),
                 channels: decode.channels,
                 restart: false,

@@ -15,6 +15,8 @@ const CHANNELS: usize = 4;
 /// Pixels of one colour: its own chunk, and the longest run.
 const STRETCH: usize = 63;
 const EVERY: &str = "1000000";
+/// The message's number, the largest that there is.
+const NUMBER: u64 = u64::MAX;
 
 /// Decodes it with a kill between, and compares each byte.
 pub fn largest(worker: &Path, folder: &Path, random: &mut Random) -> Result<(), String> {
@@ -29,6 +31,7 @@ pub fn largest(worker: &Path, folder: &Path, random: &mut Random) -> Result<(), 
             .args([&message, &output])
             .arg("--record")
             .arg(&record)
+            .args(["--number", &NUMBER.to_string()])
             .args(["--every", EVERY])
             .stderr(Stdio::piped())
             .spawn()
@@ -74,7 +77,10 @@ fn colour(stretch: usize) -> [u8; CHANNELS] {
 
 /// Waits until the record says that as many pixels are done, or the worker has ended.
 fn wait_until(worker: &mut Child, record: &PathBuf, pixels: usize) -> std::io::Result<()> {
-    let done = || Some(saved::from_bytes(&fs::read(record).ok()?)?.0.pixels_done());
+    let done = || {
+        let (record, _) = saved::from_bytes(&fs::read(record).ok()?, NUMBER).ok()?;
+        Some(record.pixels_done())
+    };
     while worker.try_wait()?.is_none() && done().unwrap_or(0) < pixels {
         sleep(Duration::from_millis(1));
     }

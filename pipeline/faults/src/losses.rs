@@ -4,7 +4,9 @@ use crate::ledger::Told;
 use crate::pictures::{some_bytes, FAMILIES};
 use crate::random::Random;
 use crate::turns::{at_once, Left, Plan, Turns, Until, Within};
-use crate::undisturbed::{checked_output, checked_pair, some_decode, Found, Undisturbed};
+use crate::undisturbed::{
+    another_hour, another_number, checked_output, checked_pair, some_decode, Found, Undisturbed,
+};
 use crate::wrong::{Wrong, WrongDisk};
 use std::mem::take;
 use std::path::{Path, PathBuf};
@@ -12,6 +14,8 @@ use worker::decode::{decode, Job};
 
 /// Records that one decode saves, at most about.
 const SAVES: usize = 40;
+/// The number of the refusal of another message's record.
+const OTHER_MESSAGE: u8 = 12;
 /// Calls within which workers are cut off: often few, since a worker that begins has most to do right.
 const WITHIN: Within = Within {
     calls: &[10, 20, 40, 80, 160, 320],
@@ -28,6 +32,8 @@ pub struct Losses {
     pub kills: usize,
     /// Of decodes.
     pub take_ups: usize,
+    /// Workers that found another message's record, and refused it.
+    pub others: usize,
     pub bytes: usize,
     /// Of counts.
     pub months: usize,
@@ -84,6 +90,7 @@ pub fn lived(random: Random, wrong: Option<Wrong>, counts: &mut Losses) -> Resul
     }
     history.know_what_is_right();
     for _ in 0..history.random.between(1, 10) {
+        history.refuse_the_other()?;
         let workers = *history.random.pick(&[1, 1, 1, 2, 2, 3]);
         let plan = Plan::some(&mut history.random, workers, &WITHIN);
         let has_ended = history.round(THIS, &plan)?;
@@ -116,7 +123,7 @@ struct History<'a> {
 
 impl<'a> History<'a> {
     fn new(mut random: Random, wrong: Option<Wrong>, counts: &'a mut Losses) -> Self {
-        let decodes = [small_decode(&mut random), small_decode(&mut random)];
+        let decodes = two_decodes(&mut random);
         let messages = ["in/this", "in/other"].map(PathBuf::from);
         let folders = [("one", "one"), ("one", "two")];
         let (first, second) = random.pick(&folders);
@@ -167,6 +174,30 @@ impl<'a> History<'a> {
         self.check_pair()
     }
 
+    /// A worker that finds the other decode's record, and is not told to begin anew, refuses it and changes nothing.
+    fn refuse_the_other(&mut self) -> Result<(), String> {
+        if !matches!(self.found, Some((OTHER, _))) {
+            return Ok(());
+        }
+        let all = self.disk.all_shown();
+        let job = Job {
+            restart: false,
+            ..self.some_job(THIS)
+        };
+        let (answers, left) = self.worked(THIS, &[job], &Plan::undisturbed(1));
+        self.take(left);
+        if answers != [OTHER_MESSAGE] {
+            return Err(format!(
+                "a worker that found the record of another message ended with {answers:?} and not {OTHER_MESSAGE}"
+            ));
+        }
+        if self.disk.all_shown() != all {
+            return Err("a worker that refuses a record has changed something".into());
+        }
+        self.counts.others += 1;
+        Ok(())
+    }
+
     /// Cuts the power where nobody is at work.
     fn cut_power(&mut self) {
         let lost = self.disk.crash(&mut self.random);
@@ -180,23 +211,11 @@ impl<'a> History<'a> {
     /// Workers at one of the decodes, until each has ended or is cut off; then a look at what is left. Whether one has ended.
     fn round(&mut self, which: usize, plan: &Plan) -> Result<bool, String> {
         let jobs: Vec<Job> = plan.kills.iter().map(|_| self.some_job(which)).collect();
-        let random = Random::new(self.random.next());
-        let turns = Turns::new(take(&mut self.disk), random, plan, Some(&self.record));
-        let wrong = self.wrong;
-        let answers = at_once(&turns, &jobs, |seat, job: &Job| match wrong {
-            None => decode(seat, job, &mut |_| {}),
-            Some(wrong) => {
-                let disk = WrongDisk::new(seat, wrong, Some(&job.output));
-                decode(&disk, job, &mut |_| {})
-            }
-        });
-        let left = turns.left();
+        let (ended, left) = self.worked(which, &jobs, plan);
         let is_cut = left.lost.is_some();
         self.take(left);
         self.check_pair()?;
         let right = self.decodes[which].status;
-        let ended = answers.into_iter().flatten();
-        let ended: Vec<u8> = ended.map(|answer| answer.err().unwrap_or(0)).collect();
         if let Some(wrong) = ended.iter().find(|&&status| status != right) {
             return Err(format!("a worker ended with {wrong} and not {right}"));
         }
@@ -207,6 +226,24 @@ impl<'a> History<'a> {
             self.spoil_what_is_not_done();
         }
         Ok(!ended.is_empty())
+    }
+
+    /// Lets workers do jobs of one of the decodes at once: the statuses of those that ended, and what is left.
+    fn worked(&mut self, which: usize, jobs: &[Job], plan: &Plan) -> (Vec<u8>, Left) {
+        let random = Random::new(self.random.next());
+        let record = Some((&*self.record, self.decodes[which].number));
+        let turns = Turns::new(take(&mut self.disk), random, plan, record);
+        let wrong = self.wrong;
+        let answers = at_once(&turns, jobs, |seat, job: &Job| match wrong {
+            None => decode(seat, job, &mut |_| {}),
+            Some(wrong) => {
+                let disk = WrongDisk::new(seat, wrong, Some(job));
+                decode(&disk, job, &mut |_| {})
+            }
+        });
+        let ended = answers.into_iter().flatten();
+        let statuses = ended.map(|answer| answer.err().unwrap_or(0)).collect();
+        (statuses, turns.left())
     }
 
     /// A crash may leave anything where no record speaks of it.
@@ -228,6 +265,7 @@ impl<'a> History<'a> {
             message: self.messages[which].clone(),
             output: self.output.clone(),
             record: self.record.clone(),
+            number: decode.number,
             every: every.max(1) as u64,
             channels: Some(decode.channels),
             restart: is_anothers || self.random.one_in(8),
@@ -294,6 +332,20 @@ impl<'a> History<'a> {
             _ => Err("no record of it stands there at the end".into()),
         }
     }
+}
+
+/// Two decodes of messages with different numbers: often of one size, as an hour and the previous one are.
+fn two_decodes(random: &mut Random) -> [Undisturbed; 2] {
+    let this = small_decode(random);
+    let other = match random.one_in(2) {
+        true => another_hour(random, &this),
+        false => {
+            let mut other = small_decode(random);
+            other.number = another_number(random, this.number);
+            other
+        }
+    };
+    [this, other]
 }
 
 /// The decode of some small picture.

@@ -108,7 +108,9 @@ fn tried(given: &Given) -> Result<(), String> {
     );
     let damages = damage::damage(&benches[0], &mut random, damages).map_err(kept)?;
     println!(
-        "damages: {damages} records and outputs that no worker left, each refused and begun anew"
+        "damages: {} records and outputs that no worker left of this message, {} of them records of another one; \
+         each refused, left as it was, and begun anew",
+        damages.all, damages.other_messages
     );
     let table = TableBench::new(&given.worker, &given.folder.join("month"))?;
     let months =
@@ -130,13 +132,18 @@ fn tried(given: &Given) -> Result<(), String> {
     }
     fs::remove_dir_all(&given.folder).map_err(bench::says(&given.folder))?;
     let losses = losses::lose(losses::lived, given.seed, losses)?;
+    if losses.others == 0 {
+        return Err("no worker has found the record of another message".into());
+    }
     println!(
-        "losses: {} of {} crashes lost what was not flushed, {} of them a rename; {} kills, {} take-ups, {} MB compared",
+        "losses: {} of {} crashes lost what was not flushed, {} of them a rename; {} kills, {} take-ups, \
+         {} records of another message refused, {} MB compared",
         losses.losses,
         losses.crashes,
         losses.renames,
         losses.kills,
         losses.take_ups,
+        losses.others,
         losses.bytes / 1_000_000
     );
     let losses = losses::lose(month_losses::lived, given.seed, month_losses)?;

@@ -34,7 +34,7 @@ struct State {
     locks: Vec<(usize, usize)>,
     until_crash: Option<Until>,
     lost: Option<Lost>,
-    record: Option<PathBuf>,
+    record: Option<(PathBuf, u64)>,
     take_ups: usize,
     kills: usize,
 }
@@ -131,8 +131,13 @@ pub struct Left {
 }
 
 impl Turns {
-    /// Nobody has had a turn yet. `record` is the path of the record, if there is one, whose reading is counted.
-    pub fn new(disk: Forgetful, mut random: Random, plan: &Plan, record: Option<&Path>) -> Self {
+    /// Nobody has had a turn yet. `record` is the path of the record, if there is one, whose reading is counted, and its message's number.
+    pub fn new(
+        disk: Forgetful,
+        mut random: Random,
+        plan: &Plan,
+        record: Option<(&Path, u64)>,
+    ) -> Self {
         let lives = |&until_kill: &Option<Until>| Life::Lives {
             until_kill,
             waits_for: None,
@@ -147,7 +152,7 @@ impl Turns {
                 locks: Vec::new(),
                 until_crash: plan.crash,
                 lost: None,
-                record: record.map(Path::to_owned),
+                record: record.map(|(path, number)| (path.to_owned(), number)),
                 take_ups: 0,
                 kills: 0,
             }),
@@ -423,9 +428,13 @@ impl<'a> Disk for Seat<'a> {
         let begun = |(record, _): (Record, u64)| {
             (1..record.header().n_pixels()).contains(&record.pixels_done())
         };
-        if Some(path) == state.record.as_deref() && saved::from_bytes(&bytes).map_or(false, begun) {
-            state.take_ups += 1;
-        }
+        let is_taken_up = match &state.record {
+            Some((record, number)) if record == path => {
+                saved::from_bytes(&bytes, *number).map_or(false, begun)
+            }
+            _ => false,
+        };
+        state.take_ups += usize::from(is_taken_up);
         Ok(bytes)
     }
 

@@ -1,12 +1,13 @@
 //! What one undisturbed decode in memory answers and leaves, and whether a record and an output may be what a cut-off one left.
-use crate::pictures::{as_delivered, message, Family};
+use crate::pictures::{as_delivered, message, Family, FAMILIES};
 use crate::random::Random;
-use pivotshade::{Channels, Decoder, Record};
+use pivotshade::{decode_header, Channels, Decoder, Error, Header, Record};
 use worker::saved;
 
-/// A message, the channels to decode it to, and what its undisturbed decode does.
+/// A message with its number, the channels to decode it to, and what its undisturbed decode does.
 pub struct Undisturbed {
     pub message: Vec<u8>,
+    pub number: u64,
     pub channels: Channels,
     /// 0, or the number of the refusal.
     pub status: u8,
@@ -18,7 +19,7 @@ pub struct Undisturbed {
 }
 
 impl Undisturbed {
-    pub fn new(message: Vec<u8>, channels: Channels) -> Self {
+    pub fn new(message: Vec<u8>, number: u64, channels: Channels) -> Self {
         let (status, mut written) = decoded(&message, channels, 0);
         // a byte that is the same on whatever the output held before was written
         let (_, on_other) = decoded(&message, channels, 0xff);
@@ -28,6 +29,7 @@ impl Undisturbed {
         Self {
             sum: saved::sum(&message),
             message,
+            number,
             channels,
             status,
             written,
@@ -63,12 +65,13 @@ impl Undisturbed {
         self.written.len() / usize::from(self.channels.as_u8())
     }
 
+    fn header(&self) -> Header {
+        decode_header(&self.message).expect("its header is good")
+    }
+
     /// Whether this is the decode that a record of this message sum is of.
     fn is_of(&self, record: &Record, sum: u64) -> bool {
-        let header = *Decoder::new(&self.message)
-            .expect("its header is good")
-            .header();
-        (sum, record.channels(), record.header()) == (self.sum, self.channels, header)
+        (sum, record.channels(), record.header()) == (self.sum, self.channels, self.header())
     }
 }
 
@@ -82,7 +85,36 @@ pub fn some_decode(
     let channels = [Channels::Rgb, Channels::Rgba];
     let own = *random.pick(&channels);
     let whole = message(random, family, own, width, height);
-    Undisturbed::new(as_delivered(random, whole), *random.pick(&channels))
+    let number = some_number(random);
+    Undisturbed::new(as_delivered(random, whole), number, *random.pick(&channels))
+}
+
+/// The decode of another message, to the same channels, whose header is the same: the next hour's, or the previous one's.
+pub fn another_hour(random: &mut Random, of: &Undisturbed) -> Undisturbed {
+    let header = of.header();
+    let (width, height) = (header.width as usize, header.height as usize);
+    let family = *random.pick(&FAMILIES);
+    let whole = message(random, family, header.channels, width, height);
+    let number = another_number(random, of.number);
+    Undisturbed::new(as_delivered(random, whole), number, of.channels)
+}
+
+/// A number that the broker may give a message, of any length.
+fn some_number(random: &mut Random) -> u64 {
+    random.next() >> random.below(64)
+}
+
+/// A number that the broker may give another message: often the next one, or one that differs in a bit.
+pub fn another_number(random: &mut Random, than: u64) -> u64 {
+    let another = match random.below(3) {
+        0 => than.wrapping_add(1),
+        1 => than ^ (1 << random.below(64)),
+        _ => some_number(random),
+    };
+    match another == than {
+        true => !than,
+        false => another,
+    }
 }
 
 /// Number of the refusal and the whole output, which held only this byte before.
@@ -107,12 +139,7 @@ pub fn checked_pair(
         None => return Ok(None),
         Some(saved) => saved,
     };
-    let (record, sum) = saved::from_bytes(saved)
-        .ok_or_else(|| format!("the record of {} bytes is no whole one", saved.len()))?;
-    let place = decodes
-        .iter()
-        .position(|decode| decode.is_of(&record, sum))
-        .ok_or("the record is of a decode that nobody did")?;
+    let (place, record) = found_of(decodes, saved)?;
     let done = record.bytes_done();
     let written = decodes[place].written.get(..done);
     let written = written.ok_or("the record stands where the message does not come to")?;
@@ -131,6 +158,21 @@ pub fn checked_pair(
         }
     }
     Ok(Some((place, record)))
+}
+
+/// The decode that a saved record is of, by its number, its message and its channels.
+fn found_of(decodes: &[&Undisturbed], saved: &[u8]) -> Result<(usize, Record), String> {
+    for (place, decode) in decodes.iter().enumerate() {
+        match saved::from_bytes(saved, decode.number) {
+            Ok((record, sum)) if decode.is_of(&record, sum) => return Ok((place, record)),
+            Ok(_) | Err(Error::OtherMessage { .. }) => {}
+            Err(_) => {
+                let length = saved.len();
+                return Err(format!("the record of {length} bytes is no whole one"));
+            }
+        }
+    }
+    Err("the record is of a decode that nobody did".into())
 }
 
 /// Looks whether an output is as it must be at the end.

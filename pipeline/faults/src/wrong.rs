@@ -1,13 +1,14 @@
 //! Wrong workers, made of the right one by a disk that does its calls otherwise. A test that finds no fault with them is none.
 use crate::turns::{Held, Seat};
-use pivotshade::Table;
+use pivotshade::{Error, Record, Table};
 use std::cell::Cell;
 use std::ffi::OsString;
 use std::io;
-use std::path::{Path, PathBuf};
+use std::path::Path;
+use worker::decode::Job;
 use worker::disk::Disk;
 use worker::failure::Failure;
-use worker::table;
+use worker::{saved, table};
 
 /// What a worker does wrong.
 #[derive(Clone, Copy, PartialEq)]
@@ -17,6 +18,7 @@ pub enum Wrong {
     RenameUnflushed,
     FolderUnflushed,
     NothingFlushed,
+    AnyRecord,
     AlreadyUnflushed,
     Unlocked,
     InPlace,
@@ -24,12 +26,13 @@ pub enum Wrong {
 }
 
 impl Wrong {
-    pub const OF_A_DECODE: [Self; 5] = [
+    pub const OF_A_DECODE: [Self; 6] = [
         Self::SavesFirst,
         Self::RenamedUnflushed,
         Self::RenameUnflushed,
         Self::FolderUnflushed,
         Self::NothingFlushed,
+        Self::AnyRecord,
     ];
 
     pub const OF_A_COUNT: [Self; 6] = [
@@ -49,6 +52,7 @@ impl Wrong {
             Self::RenameUnflushed => "does not flush the folder after the rename",
             Self::FolderUnflushed => "flushes no folder",
             Self::NothingFlushed => "flushes nothing",
+            Self::AnyRecord => "takes up a record of another message",
             Self::AlreadyUnflushed => "says 'counted already' and does not flush the folder",
             Self::Unlocked => "takes no lock",
             Self::InPlace => "writes the table in its place",
@@ -61,8 +65,8 @@ impl Wrong {
 pub struct WrongDisk<'a> {
     seat: &'a Seat<'a>,
     wrong: Wrong,
-    /// A decode's output.
-    output: Option<PathBuf>,
+    /// What it is to decode, if it is a decode.
+    job: Option<&'a Job>,
     opened_output: Cell<Option<usize>>,
     /// The output, where its flush waits for the record's.
     held_back: Cell<Option<usize>>,
@@ -71,11 +75,11 @@ pub struct WrongDisk<'a> {
 }
 
 impl<'a> WrongDisk<'a> {
-    pub fn new(seat: &'a Seat<'a>, wrong: Wrong, output: Option<&Path>) -> Self {
+    pub fn new(seat: &'a Seat<'a>, wrong: Wrong, job: Option<&'a Job>) -> Self {
         Self {
             seat,
             wrong,
-            output: output.map(Path::to_owned),
+            job,
             opened_output: Cell::new(None),
             held_back: Cell::new(None),
             has_renamed: Cell::new(false),
@@ -83,10 +87,25 @@ impl<'a> WrongDisk<'a> {
     }
 
     fn opened(&self, path: &Path, file: usize) -> usize {
-        if Some(path) == self.output.as_deref() {
+        if self.job.map_or(false, |job| job.output == path) {
             self.opened_output.set(Some(file));
         }
         file
+    }
+
+    /// A record's file; where it is of another message, as it would be of the one that is to be decoded.
+    fn renamed_record(&self, bytes: Vec<u8>, job: &Job) -> io::Result<Vec<u8>> {
+        let number = match saved::from_bytes(&bytes, job.number) {
+            Err(Error::OtherMessage { number }) => number,
+            _ => return Ok(bytes),
+        };
+        let (record, _) = saved::from_bytes(&bytes, number).expect("it names this number");
+        let record = record.as_bytes();
+        let before = record.len() - number_bytes(number).len();
+        let named = [&record[..before], &number_bytes(job.number)].concat();
+        let named = Record::from_bytes(&named, job.number).expect("only its number is another");
+        let message = self.seat.read(&job.message)?;
+        Ok(saved::to_bytes(&named, saved::sum(&message)))
     }
 
     /// Writes the bytes of one file to another one.
@@ -108,6 +127,17 @@ impl<'a> WrongDisk<'a> {
         let first = Table::from_parts(totals, *marked.marks());
         table::write(self.seat, path, &first).map_err(told)
     }
+}
+
+/// A number as a record has it: seven bits a byte, the lowest first, the top bit set on all but the last byte.
+fn number_bytes(mut number: u64) -> Vec<u8> {
+    let mut bytes = Vec::new();
+    while number >= 0x80 {
+        bytes.push(number as u8 | 0x80);
+        number >>= 7;
+    }
+    bytes.push(number as u8);
+    bytes
 }
 
 fn told(failure: Failure) -> io::Error {
@@ -169,7 +199,13 @@ impl<'a> Disk for WrongDisk<'a> {
     }
 
     fn read(&self, path: &Path) -> io::Result<Vec<u8>> {
-        self.seat.read(path)
+        let bytes = self.seat.read(path)?;
+        match self.job {
+            Some(job) if self.wrong == Wrong::AnyRecord && job.record == path => {
+                self.renamed_record(bytes, job)
+            }
+            _ => Ok(bytes),
+        }
     }
 
     fn rename(&self, from: &Path, to: &Path) -> io::Result<()> {
