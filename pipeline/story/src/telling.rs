@@ -18,17 +18,24 @@ const RECORDS: u64 = 64;
 const MORE_RECORDS: u64 = 4;
 /// How often it is tried to kill worker 1 on the way.
 const TRIES: u32 = 6;
+/// The status of a worker that finds the record of another message.
+const OTHER_MESSAGE: i32 = 12;
 
-/// Tells the story of what is sent, in a folder; or why it does not end well.
-pub fn tell(sent: &Sent, program: &Path, folder: &Path) -> Result<(), String> {
+/// Tells the story of what is sent as the message with this number, in a folder; or why it does not end well.
+pub fn tell(sent: &Sent, number: u64, program: &Path, folder: &Path) -> Result<(), String> {
     make_folder(folder)?;
     let files = &Files::of(folder);
-    let workers = &Workers { program, files };
+    let workers = &Workers {
+        program,
+        number,
+        files,
+    };
     let steps = encode(sent, workers)?;
     let cut = cut_off(sent, workers, steps)?;
     take_over(sent, workers, &cut)?;
     let left = compare(sent, workers)?;
     deliver_again(workers, &cut)?;
+    deliver_the_next(workers, &cut)?;
     write(
         &files.picture,
         &draw(&sent.grid, &panels(sent, &cut, &left)),
@@ -209,8 +216,34 @@ fn compare(sent: &Sent, workers: &Workers) -> Result<Vec<u8>, String> {
 fn deliver_again(workers: &Workers, cut: &Cut) -> Result<(), String> {
     let worker = workers.decode(cut.every)?.well("worker 3")?;
     say(format_args!(
-        "delivered again: status 0 after {}",
+        "message {} delivered again: status 0 after {}",
+        workers.number,
         time(worker.lived)
+    ));
+    Ok(())
+}
+
+/// Starts worker 4 on the same files, as if they were the next message's: it must refuse the record and leave both as they are.
+fn deliver_the_next(workers: &Workers, cut: &Cut) -> Result<(), String> {
+    let files = workers.files;
+    let before = (read(&files.output)?, read(&files.record)?);
+    let next = Workers {
+        number: workers.number + 1,
+        ..*workers
+    };
+    let worker = next.decode(cut.every)?;
+    if worker.output.status.code() != Some(OTHER_MESSAGE) {
+        return Err(format!(
+            "worker 4 did not refuse the record of another message: {}",
+            worker.output.status
+        ));
+    }
+    if (read(&files.output)?, read(&files.record)?) != before {
+        return Err("worker 4 changed the output or the record of another message".into());
+    }
+    say(format_args!(
+        "message {} with the same record: refused, status {OTHER_MESSAGE}; output and record are as they were",
+        next.number
     ));
     Ok(())
 }

@@ -76,10 +76,13 @@ impl Ended {
     }
 }
 
-/// The worker's program, and the files that each one of them is given.
+/// The worker's program, and what each one of them is given.
+#[derive(Clone, Copy)]
 pub struct Workers<'a> {
     /// The program.
     pub program: &'a Path,
+    /// The number that the queue gave the message: each delivery of it has the same.
+    pub number: u64,
     /// The files.
     pub files: &'a Files,
 }
@@ -118,12 +121,14 @@ impl Workers<'_> {
     /// The record that stands there.
     pub fn record(&self) -> Option<Record> {
         let bytes = fs::read(&self.files.record).ok()?;
-        Some(saved::from_bytes(&bytes)?.0)
+        let (record, _) = saved::from_bytes(&bytes, self.number).ok()?;
+        Some(record)
     }
 
     fn start_decode(&self, every: u64) -> Result<Started, String> {
         let mut command = self.command("decode", [&self.files.message, &self.files.output]);
         command.arg("--record").arg(&self.files.record);
+        command.args(["--number", &self.number.to_string()]);
         command.args(["--every", &every.to_string()]);
         Started::new(command)
     }
