@@ -161,8 +161,8 @@ impl<'a> Decoder<'a> {
 ///
 /// let mut message = encode_to_vec([10, 20, 30], 1, 1)?;
 /// message.extend(b"and more");
-/// let record = start(&message, Channels::Rgb)?;
-/// match run(&message, &record, &mut [0; 3], u64::MAX)? {
+/// let record = start(&message, 17, Channels::Rgb)?;
+/// match run(&message, 17, &record, &mut [0; 3], u64::MAX)? {
 ///     Ran::Done { used, .. } => assert_eq!(rest(&message, used), b"and more"),
 ///     Ran::More(_) => unreachable!(),
 /// }
