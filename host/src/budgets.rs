@@ -1,8 +1,9 @@
 // The bound on steps: from each checkpoint the pixels left and one more end the decode, and n steps, then m, are n + m.
 use crate::check::Check;
-use crate::messages::any_message;
+use crate::messages::{any_message, any_number};
 use crate::output::{self, Next, Output, Ran, Stand};
 use crate::random::Random;
+use crate::record::first_length;
 use crate::trace::{Trace, MOST};
 
 /// So many checkpoints of one message are tried; of a short one that is each.
@@ -10,6 +11,7 @@ const TRIED: usize = 40;
 
 struct Budget<'a> {
     message: &'a [u8],
+    number: u64,
     trace: &'a Trace,
     room: usize,
     done: usize,
@@ -20,6 +22,7 @@ impl Budget<'_> {
     fn run(&self, random: &mut Random, output: &mut Output, steps: usize) -> Result<Ran, String> {
         let stand = Stand {
             message: self.message,
+            number: self.number,
             trace: self.trace,
             done: self.done,
             record: &self.record,
@@ -86,12 +89,15 @@ pub fn budgets(check: &mut Check, random: &mut Random) {
         _ => return,
     };
     let room = trace.written.len() + *random.pick(&[0, 0, 0, 1, 9]);
+    let number = any_number(random);
     let all = trace.steps() + 1;
     for i in 0..all.min(TRIED) {
         let done = if all <= TRIED { i } else { random.below(all) };
-        let result = output::start(&message, &found, wanted, 277, 0).and_then(|record| {
+        let record = output::start(&message, number, &found, wanted, first_length(number), 0);
+        let result = record.and_then(|record| {
             let start = Budget {
                 message: &message,
+                number,
                 trace,
                 room,
                 done: 0,

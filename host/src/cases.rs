@@ -20,7 +20,7 @@ pub enum Cases {
     Fewer(u64, fn(&mut Check, &mut Random)),
 }
 
-pub const KINDS: [(&str, Cases); 63] = [
+pub const KINDS: [(&str, Cases); 65] = [
     (
         "headers, each byte at each place",
         Cases::All(families::HEADER_BYTES, each_header_byte),
@@ -56,10 +56,7 @@ pub const KINDS: [(&str, Cases); 63] = [
     ("runs on too little", Cases::Fewer(10, records::short_runs)),
     (
         "records, each byte at each place",
-        Cases::All(
-            records::FEW * (records::LONGEST + 1) * 256,
-            records::each_byte,
-        ),
+        Cases::All(records::EACH_BYTE, records::each_byte),
     ),
     (
         "records, every truncation",
@@ -67,6 +64,14 @@ pub const KINDS: [(&str, Cases); 63] = [
     ),
     ("records, damaged", Cases::Some(records::damaged)),
     ("records, numbers in them", Cases::Some(records::numbers)),
+    (
+        "records, each number near theirs",
+        Cases::All(records::EVERY_NUMBER, records::every_number),
+    ),
+    (
+        "records of other messages",
+        Cases::Fewer(4, records::other_messages),
+    ),
     (
         "encode: 1x1, three channels",
         Cases::All(encodes::EVERY_RGB, encodes::one_rgb),

@@ -22,13 +22,14 @@ const SHOWN: usize = 2000;
 const COUNTS: [u64; 12] = [0, COUNTED_ALREADY, 1, 2, 3, 4, 5, 7, 8, 19, 20, 21];
 
 /// How many cases the Rust answered with each number (of records and the strict check: the rules), how many of them were encodes, strict checks and
-/// refusals in words; the months, and how the ledger answered their calls, in the order of `COUNTS`; and how often the port did otherwise.
+/// refusals in words; how often a history's worker found a record of the previous hour; the months, and how the ledger answered their calls, in the order of `COUNTS`; and how often the port did otherwise.
 #[derive(Clone, Copy, Default)]
 pub struct Tally {
-    pub answers: [u64; 12],
+    pub answers: [u64; 13],
     pub encodes: u64,
     pub stricts: u64,
     pub texts: u64,
+    pub previous: u64,
     pub months: u64,
     pub counts: [u64; COUNTS.len()],
     pub differences: u64,
@@ -47,6 +48,7 @@ impl Tally {
         self.encodes += other.encodes;
         self.stricts += other.stricts;
         self.texts += other.texts;
+        self.previous += other.previous;
         self.months += other.months;
         self.differences += other.differences;
     }
@@ -172,6 +174,11 @@ impl Check {
         if let Err(text) = result {
             self.differs_on(call, &text, name, input);
         }
+    }
+
+    /// So many records of the previous hour were found in a history.
+    pub fn found_previous(&mut self, times: u64) {
+        self.tally.previous += times;
     }
 
     /// What else was expected of a call, beside the Rust's answer.

@@ -159,10 +159,10 @@ fn image_histories(check: &mut Check, random: &mut Random, images: &[Image], tim
 
 fn print(kind: &str, tally: &Tally, note: &str) {
     let (cases, differences) = (tally.cases(), tally.differences);
-    let [accepted, cut, .., no_marker, bad, past, after] = tally.answers;
-    let others = cases - accepted - cut - no_marker - bad - past - after;
+    let [accepted, cut, .., no_marker, bad, past, after, other_message] = tally.answers;
+    let others = cases - accepted - cut - no_marker - bad - past - after - other_message;
     println!(
-        "{kind:36} {cases:10} {accepted:10} {cut:9} {others:9} {no_marker:9} {bad:9} {past:9} {after:9} {differences:11}  {note}"
+        "{kind:36} {cases:10} {accepted:10} {cut:9} {others:9} {no_marker:9} {bad:9} {past:9} {after:9} {other_message:9} {differences:11}  {note}"
     );
 }
 
@@ -225,8 +225,18 @@ fn print_months(kind: &str, tally: &Tally, note: &str) {
 pub fn run(cases: u64, seed: u64, folder: &Path) -> ExitCode {
     println!("seed {seed}; the columns after the cases: how the Rust answered them, or how the rules answer what it lacks");
     println!(
-        "{:36} {:>10} {:>10} {:>9} {:>9} {:>9} {:>9} {:>9} {:>9} {:>11}",
-        "kind", "cases", "accepted", "refused 1", "2 to 7", "8", "9", "10", "11", "differences"
+        "{:36} {:>10} {:>10} {:>9} {:>9} {:>9} {:>9} {:>9} {:>9} {:>9} {:>11}",
+        "kind",
+        "cases",
+        "accepted",
+        "refused 1",
+        "2 to 7",
+        "8",
+        "9",
+        "10",
+        "11",
+        "12",
+        "differences"
     );
     let mut check = Check::default();
     let mut total = Tally::default();
@@ -300,6 +310,10 @@ pub fn run(cases: u64, seed: u64, folder: &Path) -> ExitCode {
     println!(
         "of these {} encode cases, {} strict cases, {} text cases, {} month cases",
         total.encodes, total.stricts, total.texts, total.months
+    );
+    println!(
+        "in the histories {} records of the previous hour",
+        total.previous
     );
     println!("{} cases, {} differences", total.cases(), total.differences);
     ExitCode::from(u8::from(total.differences > 0))

@@ -1,9 +1,11 @@
-// Histories: workers that stop, die and take up checkpoints in any order on one output, which must end as the Rust's uncut decode would leave it.
+// Histories: workers that stop, die and take up checkpoints in any order on one output, which must end as the Rust's uncut decode would leave it. Now and
+// then one finds a checkpoint of the previous hour, which must be refused.
 use crate::answer::Answer;
 use crate::check::Check;
-use crate::messages::any_message;
+use crate::messages::{any_message, any_number, other_number, previous_hour};
 use crate::output::{self, Next, Output, Ran, Stand};
 use crate::random::Random;
+use crate::record::{first_length, LONGEST};
 use crate::trace::{Trace, MOST};
 
 /// How many workers there are at once, at most.
@@ -12,6 +14,7 @@ const WORKERS: usize = 3;
 struct History<'a> {
     /// As the runs are lent it: a step never looks at the header.
     message: &'a [u8],
+    number: u64,
     trace: &'a Trace,
     output: Output,
     /// How far a worker comes in one run.
@@ -24,6 +27,10 @@ struct History<'a> {
     valid: usize,
     /// Whether a worker has ended since they were all written.
     is_ended: bool,
+    /// The number and a checkpoint of the previous hour, once a worker has found it.
+    previous: Option<(u64, Vec<u8>)>,
+    /// How often one has.
+    found: u64,
 }
 
 impl History<'_> {
@@ -60,6 +67,7 @@ impl History<'_> {
         let (done, record) = &self.kept[worker];
         let stand = Stand {
             message: self.message,
+            number: self.number,
             trace: self.trace,
             done: *done,
             record,
@@ -110,6 +118,49 @@ impl History<'_> {
         self.is_ended = false;
     }
 
+    /// A worker finds a checkpoint of the previous hour, and is refused whatever the steps.
+    fn find_previous(&mut self, random: &mut Random) -> Result<(), String> {
+        let (number, record) = match self.previous.take() {
+            Some(previous) => previous,
+            None => self.decode_previous(random)?,
+        };
+        let stand = Stand {
+            message: self.message,
+            number: self.number,
+            trace: self.trace,
+            done: 0,
+            record: &record,
+        };
+        let steps = self.some_steps(random);
+        self.output.refuses(random, stand, number, steps)?;
+        self.found += 1;
+        self.previous = Some((number, record));
+        Ok(())
+    }
+
+    /// Some steps of the previous hour's decode, on an output of its own: its message's number and its checkpoint.
+    fn decode_previous(&self, random: &mut Random) -> Result<(u64, Vec<u8>), String> {
+        let number = other_number(random, self.number);
+        let first = self.trace.record(0, number);
+        let message = previous_hour(random, &first.header);
+        let found = Trace::new(&message, first.wanted, MOST);
+        let record = output::start(&message, number, &found, first.wanted, LONGEST, 0)?;
+        let trace = found.map_err(|refusal| format!("the previous hour: {refusal}"))?;
+        let steps = random.below(trace.steps() + 1) as u64;
+        let stand = Stand {
+            message: &message,
+            number,
+            trace: &trace,
+            done: 0,
+            record: &record,
+        };
+        let mut output = Output::new(random, trace.written.len());
+        match output.run(random, stand, steps, Next::Exact)? {
+            Ran::More(_, record) => Ok((number, record)),
+            _ => Err("the previous hour leaves no record".to_string()),
+        }
+    }
+
     fn play(&mut self, random: &mut Random) -> Result<(), String> {
         for _ in 0..random.between(1, 50) {
             match random.below(16) {
@@ -118,6 +169,7 @@ impl History<'_> {
                     self.take_up(random, |fit, random| *random.pick(fit));
                 }
                 4 => drop(self.workers.pop()),
+                5 => self.find_previous(random)?,
                 _ => self.work(random, true)?,
             }
         }
@@ -133,19 +185,20 @@ impl History<'_> {
     }
 }
 
-/// One history, on an output that is so much longer than needed.
+/// One history, on an output that is so much longer than needed: how often a worker found a checkpoint of the previous hour.
 fn history(
     random: &mut Random,
     message: &[u8],
     wanted: u64,
     trace: &Result<Trace, Answer>,
     more: usize,
-) -> Result<(), String> {
-    let room = *random.pick(&[277, 277, 278, 290, 400]);
-    let record = output::start(message, trace, wanted, room, random.byte())?;
+) -> Result<u64, String> {
+    let number = any_number(random);
+    let room = first_length(number) + random.pick(&[0, 0, 1, 13, 123]);
+    let record = output::start(message, number, trace, wanted, room, random.byte())?;
     let trace = match trace {
         Ok(trace) => trace,
-        Err(_) => return Ok(()),
+        Err(_) => return Ok(0),
     };
     let mut lent = message.to_vec();
     if random.one_in(4) {
@@ -153,6 +206,7 @@ fn history(
     }
     let mut history = History {
         message: &lent,
+        number,
         trace,
         output: Output::new(random, trace.written.len() + more),
         most: *random.pick(&[2, 10, 300]),
@@ -160,9 +214,12 @@ fn history(
         workers: vec![0],
         valid: 0,
         is_ended: false,
+        previous: None,
+        found: 0,
     };
     history.play(random)?;
-    history.output.is_as_uncut(message, wanted, trace)
+    history.output.is_as_uncut(message, wanted, trace)?;
+    Ok(history.found)
 }
 
 /// A case of a history, on a message whose picture may take `most` bytes.
@@ -183,7 +240,8 @@ pub fn check_history(
         Ok(trace) => trace.answer.number,
         Err(refusal) => refusal.number,
     };
-    let result = history(random, message, wanted, &trace, more);
+    let played = history(random, message, wanted, &trace, more);
+    let result = played.map(|found| check.found_previous(found));
     let call = format!("to {wanted} channels, output longer by {more}");
     check.case(number, result, &call, "message", message);
 }

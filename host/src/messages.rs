@@ -1,4 +1,4 @@
-// How messages are made: good ones and random ones, chunk by chunk, and what damages them.
+// How messages are made: good ones and random ones, chunk by chunk, and what damages them; and the numbers that a broker may give them.
 use crate::check::MARKER;
 use crate::pictures;
 use crate::random::Random;
@@ -312,6 +312,41 @@ pub fn any_message(random: &mut Random) -> Vec<u8> {
         message.truncate(random.below(message.len() + 1));
     }
     message
+}
+
+/// A message with the same header, as the previous hour's: a good one, or the beginning of one where the picture is large.
+pub fn previous_hour(random: &mut Random, message: &[u8]) -> Vec<u8> {
+    let header = &message[..14];
+    let side = |at: usize| u32::from_be_bytes(header[at..at + 4].try_into().expect("four"));
+    let pixels = (side(4) as usize).saturating_mul(side(8) as usize);
+    let chunks = chunks_for(random, pixels.min(200), header[12]);
+    [header, &chunks.bytes, &MARKER].concat()
+}
+
+/// A number that a broker may give a message: 0, the largest, the first or the last of so many bits, or any.
+pub fn any_number(random: &mut Random) -> u64 {
+    let power = 1 << random.below(64);
+    match random.below(6) {
+        0 => power,
+        1 => power - 1,
+        2 => *random.pick(&[0, u64::MAX]),
+        _ => random.next() >> random.below(64),
+    }
+}
+
+/// Another number: often one off, or one bit off.
+pub fn other_number(random: &mut Random, number: u64) -> u64 {
+    let other = match random.below(4) {
+        0 => number.wrapping_add(1),
+        1 => number.wrapping_sub(1),
+        2 => number ^ (1 << random.below(64)),
+        _ => any_number(random),
+    };
+    if other == number {
+        !number
+    } else {
+        other
+    }
 }
 
 /// A good message, cut anywhere or damaged in up to four places.

@@ -3,6 +3,7 @@ use crate::answer::Answer;
 use crate::oracle;
 use crate::port::{self, MORE};
 use crate::random::Random;
+use crate::record::{of_another, LONGEST};
 use crate::trace::Trace;
 
 /// Bytes before and after what is lent, which no call may touch.
@@ -23,7 +24,7 @@ impl Next {
     fn room(self, random: &mut Random, length: usize) -> usize {
         match self {
             Next::Exact => length,
-            Next::Longer => 290 + random.below(10),
+            Next::Longer => LONGEST + random.below(10),
             Next::Short => random.below(length.max(1)),
         }
     }
@@ -42,6 +43,7 @@ pub enum Ran {
 #[derive(Clone, Copy)]
 pub struct Stand<'a> {
     pub message: &'a [u8],
+    pub number: u64,
     pub trace: &'a Trace,
     pub done: usize,
     pub record: &'a [u8],
@@ -75,7 +77,7 @@ impl Expected {
             };
         }
         let reached = stand.done + steps as usize;
-        let record = trace.record(reached).write();
+        let record = trace.record(reached, stand.number).write();
         let (length, room) = (record.len() as u64, next.room(random, record.len()));
         let (answer, ran) = if room < record.len() {
             (Answer::refused(7, [room as u64, length, 0, 0]), Ran::Lost)
@@ -115,6 +117,7 @@ pub fn is_same(ours: Answer, expected: Answer) -> Result<(), String> {
 /// The port's first record, in an output of `room` bytes.
 pub fn start(
     message: &[u8],
+    number: u64,
     trace: &Result<Trace, Answer>,
     wanted: u64,
     room: usize,
@@ -125,7 +128,7 @@ pub fn start(
     let (expected, record) = match trace {
         Err(refusal) => (*refusal, Vec::new()),
         Ok(trace) => {
-            let record = trace.record(0).write();
+            let record = trace.record(0, number).write();
             let length = record.len() as u64;
             if record.len() > room {
                 (Answer::refused(7, [room as u64, length, 0, 0]), Vec::new())
@@ -135,7 +138,7 @@ pub fn start(
         }
     };
     model[MARGIN..][..record.len()].copy_from_slice(&record);
-    let ours = port::start(message, wanted, &mut memory[MARGIN..][..room]);
+    let ours = port::start(message, number, wanted, &mut memory[MARGIN..][..room]);
     is_same(ours, expected).map_err(|text| format!("start into {room} bytes: {text}"))?;
     if memory != model {
         return Err(format!(
@@ -198,6 +201,7 @@ impl Output {
         }
         let ours = port::run(
             stand.message,
+            stand.number,
             stand.record,
             &mut self.memory[MARGIN..][..room],
             steps,
@@ -216,6 +220,36 @@ impl Output {
             "run of {steps} steps after {}, output of {room} bytes, next of {}: {fault}",
             stand.done, expected.room
         ))
+    }
+
+    /// A run from a record of another message, whose number is this: it is refused, and nothing is written.
+    pub fn refuses(
+        &mut self,
+        random: &mut Random,
+        stand: Stand,
+        other: u64,
+        steps: u64,
+    ) -> Result<(), String> {
+        let (room, next_room) = (self.room(), random.between(LONGEST - 30, LONGEST));
+        let mut nexts = vec![random.byte(); MARGIN + next_room + MARGIN];
+        let nexts_model = nexts.clone();
+        let ours = port::run(
+            stand.message,
+            stand.number,
+            stand.record,
+            &mut self.memory[MARGIN..][..room],
+            steps,
+            &mut nexts[MARGIN..][..next_room],
+        );
+        let result = is_same(ours, of_another(other));
+        result
+            .and_then(
+                |()| match nexts == nexts_model && self.memory == self.model {
+                    true => Ok(()),
+                    false => Err(format!("{ours}, and something is written")),
+                },
+            )
+            .map_err(|text| format!("run of {steps} steps from message {other}'s record: {text}"))
     }
 
     /// What the Rust's uncut decode leaves over what something else than a worker left here last; and the same of the port's.

@@ -25,6 +25,7 @@ extern "C" {
     fn pivotshade_start(
         message: *const u8,
         length: usize,
+        number: u64,
         wanted: u64,
         record: *mut u8,
         record_length: usize,
@@ -33,6 +34,7 @@ extern "C" {
     fn pivotshade_run(
         message: *const u8,
         length: usize,
+        number: u64,
         record: *const u8,
         record_length: usize,
         out: *mut u8,
@@ -136,14 +138,15 @@ pub fn strict(message: &[u8]) -> Answer {
     Answer { number, figures }
 }
 
-/// The first record's length.
-pub fn start(message: &[u8], wanted: u64, record: &mut [u8]) -> Answer {
+/// The first record's length, of the message with this number.
+pub fn start(message: &[u8], number: u64, wanted: u64, record: &mut [u8]) -> Answer {
     let mut figures = UNWRITTEN;
     // the port reads message[..] alone and writes record[..] and the four figures alone
     let number = unsafe {
         pivotshade_start(
             message.as_ptr(),
             message.len(),
+            number,
             wanted,
             record.as_mut_ptr(),
             record.len(),
@@ -153,14 +156,22 @@ pub fn start(message: &[u8], wanted: u64, record: &mut [u8]) -> Answer {
     Answer { number, figures }
 }
 
-/// Takes up a record for at most `steps` steps. 0: what decode answers; `MORE`: the length of the record in `next`.
-pub fn run(message: &[u8], record: &[u8], out: &mut [u8], steps: u64, next: &mut [u8]) -> Answer {
+/// Takes up a record of the message with this number, for at most `steps` steps. 0: what decode answers; `MORE`: the length of the record in `next`.
+pub fn run(
+    message: &[u8],
+    number: u64,
+    record: &[u8],
+    out: &mut [u8],
+    steps: u64,
+    next: &mut [u8],
+) -> Answer {
     let mut figures = UNWRITTEN;
     // the port reads message[..] and record[..] alone and writes out[..], next[..] and the four figures alone
     let number = unsafe {
         pivotshade_run(
             message.as_ptr(),
             message.len(),
+            number,
             record.as_ptr(),
             record.len(),
             out.as_mut_ptr(),

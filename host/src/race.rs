@@ -17,6 +17,9 @@ use std::time::{Duration, Instant};
 /// The steps of a run: what a worker does between two checkpoints.
 pub const SLICE: u64 = 4096;
 
+/// The message's number, as long as those of a broker that has been at work for some months.
+const NUMBER: u64 = 1 << 20;
+
 /// A row has at least so many rounds, however long they take.
 const ROUNDS: usize = 25;
 
@@ -170,14 +173,21 @@ pub static TABLES: [&Table; 5] = [&DECODE, &SMALL, &ENCODE, &STRICT, &COUNT];
 /// A whole decode as a worker does it: a start, then run after run, each from the record that the one before it left.
 fn decode_in_slices(sample: &Sample, wanted: u64, lent: &mut Lent) -> Answer {
     let message = &sample.message[..];
-    let (mut record, mut next) = ([0; 290], [0; 290]);
-    let mut answer = port::start(message, wanted, &mut record);
+    let (mut record, mut next) = ([0; 300], [0; 300]);
+    let mut answer = port::start(message, NUMBER, wanted, &mut record);
     if !answer.is_accepted() {
         return answer;
     }
     loop {
         let length = answer.figures[0] as usize;
-        answer = port::run(message, &record[..length], &mut lent.out, SLICE, &mut next);
+        answer = port::run(
+            message,
+            NUMBER,
+            &record[..length],
+            &mut lent.out,
+            SLICE,
+            &mut next,
+        );
         if answer.number != MORE {
             return answer;
         }

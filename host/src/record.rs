@@ -1,6 +1,11 @@
-// Checkpoint records, written and read from document 01's rules alone: what the port's records, and its refusals of bad ones, are held to.
+// Checkpoint records, written and read from the rules of document 01 and of document 02's Q-7 alone: what the port's records, and its refusals of bad
+// ones, are held to.
 use crate::answer::Answer;
 use crate::oracle;
+
+/// The most bytes that a record has, and those of a first one before its message's number.
+pub const LONGEST: usize = 300;
+const BEFORE_NUMBER: usize = 277;
 
 /// The state that a record holds.
 #[derive(Clone, Debug, PartialEq, Eq)]
@@ -11,12 +16,19 @@ pub struct Record {
     pub pixel: u64,
     pub current: [u8; 4],
     pub slots: [[u8; 4]; 64],
+    /// The message's.
+    pub number: u64,
 }
 
 /// Cut short.
 const CUT: Answer = Answer::refused(1, [0; 4]);
 /// A bad state or record.
 const BAD: Answer = Answer::refused(9, [0; 4]);
+
+/// A record of the message with this number, which is not the one expected.
+pub fn of_another(number: u64) -> Answer {
+    Answer::refused(12, [number, 0, 0, 0])
+}
 
 /// A number in groups of seven bits, the low group first, the top bit set on all bytes but the last.
 pub fn put_number(bytes: &mut Vec<u8>, mut number: u64) {
@@ -27,20 +39,28 @@ pub fn put_number(bytes: &mut Vec<u8>, mut number: u64) {
     bytes.push(number as u8);
 }
 
+/// The length of the first record of the message with this number.
+pub fn first_length(number: u64) -> usize {
+    let mut bytes = Vec::new();
+    put_number(&mut bytes, number);
+    BEFORE_NUMBER + bytes.len()
+}
+
 impl Record {
     pub fn write(&self) -> Vec<u8> {
-        let mut bytes = Vec::with_capacity(290);
+        let mut bytes = Vec::with_capacity(LONGEST);
         bytes.extend(self.header);
         for number in [self.wanted, self.at, self.pixel] {
             put_number(&mut bytes, number);
         }
         bytes.extend(self.current);
         bytes.extend(self.slots.concat());
+        put_number(&mut bytes, self.number);
         bytes
     }
 
-    /// From left to right, the first fault on the way; then those of the state, then bytes after it.
-    pub fn read(bytes: &[u8]) -> Result<Self, Answer> {
+    /// From left to right, the first fault on the way; then those of the state, then bytes after it; then another number than the one expected.
+    pub fn read(bytes: &[u8], expected: u64) -> Result<Self, Answer> {
         let answer = oracle::header(bytes);
         if !answer.is_accepted() {
             return Err(answer);
@@ -57,10 +77,14 @@ impl Record {
         for slot in &mut slots {
             *slot = reader.array()?;
         }
+        let number = reader.number()?;
         let [width, height, _, _] = answer.figures;
         let is_opaque = current[3] == 255 || wanted == 4;
         if at < 14 || pixel > width * height || !is_opaque || !reader.0.is_empty() {
             return Err(BAD);
+        }
+        if number != expected {
+            return Err(of_another(number));
         }
         Ok(Self {
             header,
@@ -69,6 +93,7 @@ impl Record {
             pixel,
             current,
             slots,
+            number,
         })
     }
 }

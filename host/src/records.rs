@@ -1,23 +1,34 @@
-// Starts, and records as they are and damaged: what the port answers is held to the Rust's reading of headers and to the reader of record.rs.
+// Starts, and records as they are, damaged and of other messages: what the port answers is held to the Rust's reading of headers and to the reader of
+// record.rs.
 use crate::answer::Answer;
+use crate::cases::{digit, one_of};
 use crate::check::Check;
-use crate::messages::{any_header, any_message, damage, header};
+use crate::messages::{any_header, any_message, any_number, damage, header, other_number};
 use crate::output::{self, is_same};
 use crate::port::{self, MORE};
 use crate::random::Random;
-use crate::record::{put_number, Record};
+use crate::record::{first_length, of_another, put_number, Record, LONGEST};
 use crate::trace::{Trace, MOST};
 
-/// How many records are damaged in every byte, and how many bytes each has at most.
-pub const FEW: u64 = 8;
-pub const LONGEST: u64 = 290;
+/// Some records that are damaged in every byte, by their messages' numbers.
+const FEW: [u64; 8] = [
+    0,
+    127,
+    128,
+    1 << 32,
+    1 << 63,
+    u64::MAX,
+    u64::MAX >> 1,
+    16_384,
+];
 
 /// A record as a decode may leave it, or made up with numbers of any size.
 fn any_record(random: &mut Random) -> Record {
     let wanted = 3 + random.below(2) as u64;
     let mut record = loop {
         if let Ok(trace) = Trace::new(&any_message(random), wanted, MOST) {
-            break trace.record(random.below(trace.steps() + 1));
+            let number = any_number(random);
+            break trace.record(random.below(trace.steps() + 1), number);
         }
     };
     if random.one_in(3) {
@@ -42,8 +53,17 @@ fn made_up(random: &mut Random, record: &mut Record) {
     }
 }
 
+/// A number to expect: most often the record's.
+fn some_expected(random: &mut Random, record: &Record) -> u64 {
+    if random.one_in(4) {
+        other_number(random, record.number)
+    } else {
+        record.number
+    }
+}
+
 /// A run of no steps: it reads the record and writes it again, and looks at neither message nor output.
-fn read(check: &mut Check, random: &mut Random, bytes: &[u8]) {
+fn read(check: &mut Check, random: &mut Random, bytes: &[u8], number: u64) {
     let mut message = [0; 40];
     random.fill(&mut message);
     let message = &message[..random.below(40)];
@@ -56,8 +76,8 @@ fn read(check: &mut Check, random: &mut Random, bytes: &[u8]) {
     let mut out = [output; 20];
     let mut next = vec![fill; room];
     let lent = random.below(out.len() + 1);
-    let ours = port::run(message, bytes, &mut out[..lent], 0, &mut next);
-    let found = Record::read(bytes);
+    let ours = port::run(message, number, bytes, &mut out[..lent], 0, &mut next);
+    let found = Record::read(bytes, number);
     let length = bytes.len() as u64;
     let expected = match &found {
         Err(refusal) => *refusal,
@@ -82,20 +102,20 @@ fn read(check: &mut Check, random: &mut Random, bytes: &[u8]) {
             Ok(())
         }
     });
-    let call = format!("run of no steps, next of {room} bytes");
+    let call = format!("run of no steps, message {number}, next of {room} bytes");
     check.case(expected.number, result, &call, "record", bytes);
 }
 
 /// Records of the first and the last place, of numbers of one byte and of ten, for three channels and for four.
-fn one_of_few(number: u64) -> Record {
-    let wanted = 3 + number % 2;
-    let (width, height, at, pixel) = match number / 2 {
+fn one_of_few(which: u64) -> Record {
+    let wanted = 3 + which % 2;
+    let (width, height, at, pixel) = match which / 2 {
         0 => (2, 2, 14, 0),
         1 => (100, 3, 127, 300),
         2 => (20_000, 20_000, 1 << 63, 400_000_000),
         _ => (400_000_000, 1, u64::MAX, 16_384),
     };
-    let mut random = Random::new(number);
+    let mut random = Random::new(which);
     let mut record = Record {
         header: [0; 14],
         wanted,
@@ -103,33 +123,91 @@ fn one_of_few(number: u64) -> Record {
         pixel,
         current: [1, 2, 3, 255],
         slots: [(); 64].map(|()| (random.next() as u32).to_le_bytes()),
+        number: FEW[which as usize],
     };
-    let bytes = header(width, height, 3 + (number / 4) as u8, (number / 4) as u8);
+    let bytes = header(width, height, 3 + (which / 4) as u8, (which / 4) as u8);
     record.header.copy_from_slice(&bytes);
     record
 }
 
-/// Each value of each byte of a few records, and of one more byte after them.
-pub fn each_byte(check: &mut Check, number: u64) {
-    let (place, rest) = (number % (LONGEST + 1), number / (LONGEST + 1));
-    let (value, which) = ((rest % 256) as u8, rest / 256);
-    let mut bytes = one_of_few(which).write();
+pub const EACH_BYTE: u64 = 2 * (LONGEST as u64 + 1) * 256 * FEW.len() as u64;
+
+/// Each value of each byte of a few records, and of one more byte after them; for their own message, and for another one.
+pub fn each_byte(check: &mut Check, case: u64) {
+    let mut number = case;
+    let is_own = digit(&mut number, 2) == 0;
+    let place = digit(&mut number, LONGEST as u64 + 1);
+    let value = digit(&mut number, 256) as u8;
+    let record = one_of_few(number);
+    let mut bytes = record.write();
     match bytes.get_mut(place as usize) {
         Some(byte) => *byte = value,
         None => bytes.push(value),
     }
-    read(check, &mut Random::new(number), &bytes);
+    let expected = record.number ^ u64::from(!is_own);
+    read(check, &mut Random::new(case), &bytes, expected);
+}
+
+/// The first and the last number of each length in bits, and 0.
+const NUMBERS: u64 = 2 * 64 + 1;
+
+fn number_of_length(number: &mut u64) -> u64 {
+    match digit(number, NUMBERS) {
+        0 => 0,
+        n if n % 2 == 1 => 1 << (n / 2),
+        n => u64::MAX >> (64 - n / 2),
+    }
+}
+
+/// The same number, each one bit off, one more, one less, and the ends.
+const EXPECTED: u64 = 1 + 64 + 4;
+
+pub const EVERY_NUMBER: u64 = EXPECTED * NUMBERS * FEW.len() as u64;
+
+/// Records of numbers of every length, and each number to expect that is near theirs.
+pub fn every_number(check: &mut Check, case: u64) {
+    let mut number = case;
+    let off = digit(&mut number, EXPECTED);
+    let named = number_of_length(&mut number);
+    let record = Record {
+        number: named,
+        ..one_of_few(number)
+    };
+    let expected = match off {
+        0 => named,
+        bit @ 1..=64 => named ^ (1 << (bit - 1)),
+        _ => one_of(
+            &mut (off - 65),
+            &[named.wrapping_add(1), named.wrapping_sub(1), 0, u64::MAX],
+        ),
+    };
+    read(check, &mut Random::new(case), &record.write(), expected);
+}
+
+/// Records of another message than the one expected, whole and with one fault more: it is told of whole ones alone.
+pub fn other_messages(check: &mut Check, random: &mut Random) {
+    let record = any_record(random);
+    for _ in 0..20 {
+        let mut bytes = record.write();
+        if random.one_in(2) {
+            damage(random, &mut bytes, 0);
+        }
+        let expected = other_number(random, record.number);
+        read(check, random, &bytes, expected);
+    }
 }
 
 pub fn truncations(check: &mut Check, random: &mut Random) {
-    let bytes = any_record(random).write();
+    let record = any_record(random);
+    let (bytes, expected) = (record.write(), some_expected(random, &record));
     for length in 0..=bytes.len() {
-        read(check, random, &bytes[..length]);
+        read(check, random, &bytes[..length], expected);
     }
 }
 
 pub fn damaged(check: &mut Check, random: &mut Random) {
-    let good = any_record(random).write();
+    let record = any_record(random);
+    let good = record.write();
     for _ in 0..20 {
         let mut bytes = good.clone();
         // the slots are nine tenths of a record, and hardly any value of theirs is a fault
@@ -141,12 +219,13 @@ pub fn damaged(check: &mut Check, random: &mut Random) {
         if random.one_in(4) {
             damage(random, &mut bytes, 0);
         }
-        read(check, random, &bytes);
+        let expected = some_expected(random, &record);
+        read(check, random, &bytes, expected);
     }
 }
 
 /// A number's bytes, right or wrong: not shortest, too large, cut short.
-fn any_number(random: &mut Random, usual: u64) -> Vec<u8> {
+fn any_number_bytes(random: &mut Random, usual: u64) -> Vec<u8> {
     let mut bytes = Vec::new();
     let power = 1_u64 << random.below(64);
     match random.below(8) {
@@ -171,23 +250,24 @@ fn any_number(random: &mut Random, usual: u64) -> Vec<u8> {
 
 pub fn numbers(check: &mut Check, random: &mut Random) {
     let record = any_record(random);
-    let whole = record.write();
-    let pixels = &whole[whole.len() - 260..];
     for _ in 0..20 {
         let mut bytes = record.header.to_vec();
         for usual in [record.wanted, record.at, record.pixel] {
-            bytes.extend(any_number(random, usual));
+            bytes.extend(any_number_bytes(random, usual));
         }
         if random.one_in(8) {
             bytes.truncate(14 + random.below(bytes.len() - 13));
         } else {
-            bytes.extend(pixels);
+            bytes.extend(record.current);
+            bytes.extend(record.slots.concat());
+            bytes.extend(any_number_bytes(random, record.number));
         }
-        read(check, random, &bytes);
+        let expected = some_expected(random, &record);
+        read(check, random, &bytes, expected);
     }
 }
 
-/// Any header, wanted and room for the record.
+/// Any header, number, wanted and room for the record.
 pub fn starts(check: &mut Check, random: &mut Random) {
     let mut message = match random.below(3) {
         0 => any_message(random),
@@ -204,20 +284,34 @@ pub fn starts(check: &mut Check, random: &mut Random) {
             2 => random.below(6) as u64,
             _ => random.between(3, 4) as u64,
         };
-        let room = *random.pick(&[0, 14, 276, 277, 277, 277, 278, 290, 1000]);
+        let number = any_number(random);
+        let length = first_length(number);
+        let rooms = [
+            0,
+            14,
+            277,
+            length - 1,
+            length,
+            length,
+            length + 1,
+            LONGEST,
+            1000,
+        ];
+        let room = *random.pick(&rooms);
         let trace = Trace::new(&message, wanted, MOST);
-        let number = match &trace {
+        let answer = match &trace {
             Err(refusal) => refusal.number,
-            Ok(_) if room < 277 => 7,
+            Ok(_) if room < length => 7,
             Ok(_) => 0,
         };
-        let result = output::start(&message, &trace, wanted, room, random.byte()).map(drop);
-        let call = format!("to {wanted} channels");
-        check.case(number, result, &call, "message", &message);
+        let fill = random.byte();
+        let result = output::start(&message, number, &trace, wanted, room, fill).map(drop);
+        let call = format!("message {number} to {wanted} channels");
+        check.case(answer, result, &call, "message", &message);
     }
 }
 
-/// Runs on an output too short, on a message that ends before the byte position, or on both.
+/// Runs on an output too short, on a message that ends before the byte position, or on both; and the same for another message, which is told first.
 pub fn short_runs(check: &mut Check, random: &mut Random) {
     let message = any_message(random);
     let wanted = 3 + random.below(2) as u64;
@@ -226,7 +320,9 @@ pub fn short_runs(check: &mut Check, random: &mut Random) {
         _ => return,
     };
     for _ in 0..10 {
-        let record = trace.record(random.below(trace.steps() + 1));
+        let named = any_number(random);
+        let record = trace.record(random.below(trace.steps() + 1), named);
+        let number = some_expected(random, &record);
         let needed = trace.written.len();
         let room = match random.below(3) {
             0 => needed - 1,
@@ -240,23 +336,33 @@ pub fn short_runs(check: &mut Check, random: &mut Random) {
             message.len()
         };
         let steps = 1 + (random.next() >> random.below(64)) / 2;
-        let expected = if room < needed {
+        let expected = if number != named {
+            of_another(named)
+        } else if room < needed {
             Answer::refused(7, [room as u64, needed as u64, 0, 0])
         } else {
             Answer::refused(1, [0; 4])
         };
         let [fill, output, ..] = random.next().to_le_bytes();
         let mut out = vec![output; room];
-        let mut next = [fill; 300];
+        let mut next = [fill; LONGEST];
         let bytes = record.write();
-        let ours = port::run(&message[..length], &bytes, &mut out, steps, &mut next);
+        let ours = port::run(
+            &message[..length],
+            number,
+            &bytes,
+            &mut out,
+            steps,
+            &mut next,
+        );
         let result = is_same(ours, expected).and_then(|()| {
             if next.iter().any(|&b| b != fill) || out.iter().any(|&b| b != output) {
                 return Err(format!("{ours}, and something is written"));
             }
             Ok(())
         });
-        let call = format!("run of {steps} steps, message of {length} bytes, output of {room}");
+        let call =
+            format!("run of {steps} steps, message {number} of {length} bytes, output of {room}");
         check.case(expected.number, result, &call, "record", &bytes);
     }
 }

@@ -2,10 +2,10 @@
 // Rust's decode say. No record says how many pixels are left, so no exported function takes a state of which that is wrong; the program gives its own
 // Decoder any number.
 use crate::answer::Answer;
-use crate::messages::any_message;
+use crate::messages::{any_message, any_number, other_number};
 use crate::port::MORE;
 use crate::random::Random;
-use crate::record::Record;
+use crate::record::{of_another, Record};
 use crate::trace::Trace;
 use std::io::{BufRead, BufReader, Write};
 use std::process::{Command, ExitCode, Stdio};
@@ -16,20 +16,22 @@ const ROOM: u64 = 4096;
 const FILL: u8 = 0xee;
 
 /// Where the parts of an entry stand, and its length.
-const MORE_LEFT: usize = 292;
-const STEPS: usize = 300;
-const MESSAGE: usize = 301;
+const MORE_LEFT: usize = 302;
+const NUMBER: usize = 310;
+const STEPS: usize = 318;
+const MESSAGE: usize = 319;
 const ENTRY: usize = 1024;
 
 /// So many differences are shown.
 const SHOWN: u64 = 5;
 
 /// A state: a record and the message that it is of, how many pixels more are left than the picture has from
-/// the pixel position on, and steps to run.
+/// the pixel position on, the number that the message came under, and steps to run.
 struct State {
     message: Vec<u8>,
     record: Record,
     more: u64,
+    number: u64,
     steps: u8,
     /// The line that the program must print.
     line: String,
@@ -56,10 +58,11 @@ impl State {
         }
     }
 
-    /// A state of a decode, with the pixels left that it has, or with others; or one whose pixel position is past the picture.
+    /// A state of a decode, with the pixels left that it has, or with others; or one whose pixel position is past the picture, or of another message.
     fn of(random: &mut Random, message: Vec<u8>, trace: &Trace) -> Self {
         let done = random.below(trace.steps() + 1);
-        let (mut record, left) = (trace.record(done), trace.missing(done) as u64);
+        let named = any_number(random);
+        let (mut record, left) = (trace.record(done, named), trace.missing(done) as u64);
         let pixels = record.pixel + left;
         let steps = random.below(6) as u8;
         let more = match random.below(8) {
@@ -74,18 +77,24 @@ impl State {
         if is_past {
             record.pixel = pixels + 1 + (random.next() >> random.between(1, 63));
         }
+        let number = match random.one_in(8) {
+            true => other_number(random, named),
+            false => named,
+        };
         let line = if is_past {
             line(BAD)
+        } else if number != named {
+            line(of_another(named))
         } else if more != 0 {
             let left = left.wrapping_add(more);
             // no steps test nothing
             let ran = match steps {
-                0 => Answer::refused(MORE, [record.at, record.pixel, left, 0]),
+                0 => Answer::refused(MORE, [record.at, record.pixel, left, number]),
                 _ => BAD,
             };
             format!("{} 0 {}", line(ran), line(BAD))
         } else {
-            let (ran, changed) = ran(trace, done, steps.into());
+            let (ran, changed) = ran(trace, done, steps.into(), number);
             let length = record.write().len() as u64;
             let written = Answer::accepted([length, 0, 0, 0]);
             format!("{} {changed} {}", line(ran), line(written))
@@ -94,6 +103,7 @@ impl State {
             message,
             record,
             more,
+            number,
             steps,
             line,
             adds_up: more == 0 && !is_past,
@@ -103,7 +113,8 @@ impl State {
     fn entry(&self) -> [u8; ENTRY] {
         let mut entry = [0; ENTRY];
         put(&mut entry, &self.record.write());
-        entry[MORE_LEFT..STEPS].copy_from_slice(&self.more.to_be_bytes());
+        entry[MORE_LEFT..NUMBER].copy_from_slice(&self.more.to_be_bytes());
+        entry[NUMBER..STEPS].copy_from_slice(&self.number.to_be_bytes());
         entry[STEPS] = self.steps;
         put(&mut entry[MESSAGE..], &self.message);
         entry
@@ -113,22 +124,22 @@ impl State {
 /// A bad state or record.
 const BAD: Answer = Answer::refused(9, [0; 4]);
 
-/// An answer as the program prints it: its number and three figures.
+/// An answer as the program prints it: its number and four figures.
 fn line(answer: Answer) -> String {
-    let [a, b, c, _] = answer.figures;
-    format!("{} {a} {b} {c}", answer.number)
+    let [a, b, c, d] = answer.figures;
+    format!("{} {a} {b} {c} {d}", answer.number)
 }
 
 /// What some steps answer, and how many bytes they change in an output that holds `FILL` alone.
-fn ran(trace: &Trace, done: usize, steps: usize) -> (Answer, usize) {
+fn ran(trace: &Trace, done: usize, steps: usize, number: u64) -> (Answer, usize) {
     let last = trace.steps().min(done + steps);
     let written = &trace.written[trace.bytes(done)..trace.bytes(last)];
     let changed = written.iter().filter(|&&byte| byte != FILL).count();
     if done + steps > trace.steps() {
         return (trace.answer, changed);
     }
-    let next = trace.record(last);
-    let figures = [next.at, next.pixel, trace.missing(last) as u64, 0];
+    let next = trace.record(last, number);
+    let figures = [next.at, next.pixel, trace.missing(last) as u64, number];
     (Answer::refused(MORE, figures), changed)
 }
 
@@ -157,9 +168,9 @@ pub fn run(count: u64, seed: u64, program: &[&str]) -> ExitCode {
         if printed.trim_end() != state.line {
             differences += 1;
             if differences <= SHOWN {
-                let (more, steps) = (state.more, state.steps);
+                let (more, number, steps) = (state.more, state.number, state.steps);
                 println!(
-                    "{more} pixels more left, {steps} steps: {printed:?} and not {:?}",
+                    "{more} pixels more left, message {number}, {steps} steps: {printed:?} and not {:?}",
                     state.line
                 );
                 println!("  of {:?}", state.record);
@@ -170,7 +181,9 @@ pub fn run(count: u64, seed: u64, program: &[&str]) -> ExitCode {
     writer.join().expect("it ends").expect("all is read");
     let is_well = child.wait().expect("it ends").success();
     let odd = states.iter().filter(|state| !state.adds_up).count();
-    println!("of these {odd} that do not add up");
+    let is_anothers = |state: &&State| state.record.number != state.number;
+    let others = states.iter().filter(is_anothers).count();
+    println!("of these {odd} that do not add up, {others} of another message");
     println!("{count} made-up states, {differences} differences");
     ExitCode::from(u8::from(differences > 0 || !is_well))
 }

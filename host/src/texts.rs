@@ -5,7 +5,7 @@ use crate::random::Random;
 use crate::words;
 
 /// The numbers of refusals.
-const REFUSALS: [u64; 14] = [1, 2, 3, 4, 5, 6, 7, 8, 9, 10, 11, 19, 20, 21];
+const REFUSALS: [u64; 15] = [1, 2, 3, 4, 5, 6, 7, 8, 9, 10, 11, 12, 19, 20, 21];
 
 /// The ends of the Rust's types for figures, and what they do not hold; the low half of the last but one is 9.
 const ENDS: [u64; 10] = [
@@ -102,9 +102,9 @@ pub fn any_figures(check: &mut Check, random: &mut Random) {
 /// 0, numbers between refusals' and above the last, and large ones of which a part is a refusal's.
 pub fn no_refusals(check: &mut Check, random: &mut Random) {
     let number = match random.below(4) {
-        0 => *random.pick(&[0, 12, 18, 22, 255, 256, 257, u64::MAX]),
+        0 => *random.pick(&[0, 13, 18, 22, 255, 256, 257, u64::MAX]),
         1 => (1 << random.between(4, 63)) | random.pick(&REFUSALS),
-        2 => 12 + random.below(300) as u64,
+        2 => 13 + random.below(300) as u64,
         _ => any_figure(random),
     };
     if !REFUSALS.contains(&number) {

@@ -123,8 +123,8 @@ impl Trace {
         current
     }
 
-    /// The record to be written after `steps` steps.
-    pub fn record(&self, steps: usize) -> Record {
+    /// The record to be written after `steps` steps, where the message came under this number.
+    pub fn record(&self, steps: usize, number: u64) -> Record {
         let mut slots = [[0; 4]; 64];
         for place in self.places[..=steps].iter().filter(|p| p.is_stored) {
             let [r, g, b, a] = self.current(place.pixel);
@@ -139,6 +139,7 @@ impl Trace {
             pixel: place.pixel as u64,
             current: self.current(place.pixel),
             slots,
+            number,
         }
     }
 }

@@ -49,6 +49,7 @@ fn by_hand(number: u64, told: &[u64; 4]) -> String {
         9 => "invalid decoder state or record".to_string(),
         10 => "invalid run (longer than the pixels left)".to_string(),
         11 => "invalid length (bytes after the stream end marker)".to_string(),
+        12 => format!("record of another message: {a}"),
         19 => format!("invalid hour: {a} (expected 0 to 743)"),
         20 => format!("invalid number of cells: {a} pixels for {b} cells"),
         21 => format!("total too large: cell {a} would pass 18446744073709551615"),
