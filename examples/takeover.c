@@ -1,11 +1,14 @@
 /* A decode that two workers share, through include/pivotshade.h alone: the first is cut off, the second goes on from the record that it left, over
-   an output whose rest holds other bytes; the picture must come out whole. The strict check and the words of a refusal come first. `./test` builds
-   and runs it. */
+   an output whose rest holds other bytes; the picture must come out whole. A worker with the next message is refused that record. The strict check and
+   the words of a refusal come first. `./test` builds and runs it. */
 #include "pivotshade.h"
 
 #include <stdio.h>
 #include <stdlib.h>
 #include <string.h>
+
+/* The number that the broker gave the message. */
+static const uint64_t NUMBER = 17;
 
 enum { WIDTH = 64, HEIGHT = 48, CHANNELS = 4, PIXELS = WIDTH * HEIGHT, SIZE = PIXELS * CHANNELS, ROOM = 22 + PIXELS * (CHANNELS + 1) };
 
@@ -34,7 +37,7 @@ static int work(const uint8_t *msg, size_t len, uint8_t *record, size_t *n, uint
     uint64_t figures[4], number;
 
     while (runs-- > 0) {
-        number = pivotshade_run(msg, len, record, *n, out, SIZE, 100, next, sizeof next, figures);
+        number = pivotshade_run(msg, len, NUMBER, record, *n, out, SIZE, 100, next, sizeof next, figures);
         if (number == 0) {
             expect(figures[0] == SIZE && figures[1] == len, "the decode wrote the whole picture and used the whole message");
             return 1;
@@ -64,7 +67,7 @@ static size_t pixels_done(const uint8_t *record)
 int main(void)
 {
     static uint8_t picture[SIZE], msg[ROOM], out[SIZE];
-    uint8_t record[PIVOTSHADE_RECORD_MAX], words[PIVOTSHADE_TEXT_MAX];
+    uint8_t record[PIVOTSHADE_RECORD_MAX], next[PIVOTSHADE_RECORD_MAX], words[PIVOTSHADE_TEXT_MAX];
     uint64_t figures[4], answer[4], number;
     size_t len, n, done, i;
 
@@ -82,12 +85,15 @@ int main(void)
     number = pivotshade_text(number, figures, words, sizeof words, answer);
     expect(number == 0 && answer[0] == 42 && memcmp(words, "unexpected input buffer end while decoding", 42) == 0, "1 in words");
 
-    number = pivotshade_start(msg, len, CHANNELS, record, sizeof record, figures);
+    number = pivotshade_start(msg, len, NUMBER, CHANNELS, record, sizeof record, figures);
     if (number != 0) refuse("start", number, figures);
     n = figures[0];
     expect(!work(msg, len, record, &n, out, 5), "five runs do not end the decode");
     done = pixels_done(record);
     expect(done > 0 && done < PIXELS, "the first worker is cut off on the way");
+
+    number = pivotshade_run(msg, len, NUMBER + 1, record, n, out, SIZE, 100, next, sizeof next, figures);
+    expect(number == 12 && figures[0] == NUMBER, "for the next message the record is refused with 12, and its own number told");
 
     memset(out + done * CHANNELS, 0xee, SIZE - done * CHANNELS);
     expect(work(msg, len, record, &n, out, PIXELS), "the second worker ends the decode");
