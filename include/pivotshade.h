@@ -3,7 +3,8 @@
      1 input ended                           5 dimensions {width, height}             8 no marker after the last pixel
      2 channels {channels}                   6 image length {size, width, height}     9 bad state or record
      3 colour space {byte}                   7 output too small {size, required}     10 run past the image (strict)
-     4 magic {magic}                        12 record of another message {number}    11 bytes after the marker (strict)
+     4 magic {magic}                                                                 11 bytes after the marker (strict)
+    12 record of another message {number}
     19 hour {hour}                          20 number of cells {pixels, cells}       21 total too large {cell}
    Parts that are lent to one call do not overlap, and each pointer is good for its length; figures has room for four numbers. */
 #ifndef PIVOTSHADE_H
@@ -57,8 +58,7 @@ uint64_t pivotshade_start(const uint8_t *msg, size_t len, uint64_t number, uint6
    0 steps test the record alone, and look neither at msg nor at out: PIVOTSHADE_MORE and the same record in next, or the record's refusal.
 
    A host owes, and the call cannot see:
-   - the number that the message came under, and under one number always the same bytes: that the broker gives no number to two messages is
-     taken for granted;
+   - the number that msg came under. Under one number come always the same bytes: that is for the broker to keep, and is taken for granted;
    - an output that holds, before the record's pixel, what it held when the record was written; from there on it may hold anything;
    - parts that do not overlap, and that nobody else writes during the call: msg, record, out, next and figures are five different places. A
      record is not run into itself.

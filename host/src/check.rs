@@ -22,7 +22,8 @@ const SHOWN: usize = 2000;
 const COUNTS: [u64; 12] = [0, COUNTED_ALREADY, 1, 2, 3, 4, 5, 7, 8, 19, 20, 21];
 
 /// How many cases the Rust answered with each number (of records and the strict check: the rules), how many of them were encodes, strict checks and
-/// refusals in words; how often a history's worker found a record of the previous hour; the months, and how the ledger answered their calls, in the order of `COUNTS`; and how often the port did otherwise.
+/// refusals in words; how often a history's worker found a record of the previous hour; the months, and how the ledger answered their calls, in the
+/// order of `COUNTS`; and how often the port did otherwise.
 #[derive(Clone, Copy, Default)]
 pub struct Tally {
     pub answers: [u64; 13],

@@ -1,5 +1,5 @@
-// Histories: workers that stop, die and take up checkpoints in any order on one output, which must end as the Rust's uncut decode would leave it. Now and
-// then one finds a checkpoint of the previous hour, which must be refused.
+// Histories: workers that stop, die and take up checkpoints in any order on one output, which must end as the Rust's uncut decode would leave it. At
+// times one finds a checkpoint of the previous hour, which must be refused.
 use crate::answer::Answer;
 use crate::check::Check;
 use crate::messages::{any_message, any_number, other_number, previous_hour};

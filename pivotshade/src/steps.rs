@@ -191,9 +191,9 @@ pub fn start(message: impl AsRef<[u8]>, number: u64, channels: Channels) -> Resu
 ///
 /// The call cannot see these, and what it promises rests on them:
 ///
-/// - `number` is the one that `message` came under, and under one number come always the same bytes: that the broker gives no number to two messages
-///   is taken for granted. Other bytes under the record's number are not refused, and the pixels are wrong; [`Record::header`] tells at least those of
-///   another header.
+/// - `number` is the one that `message` came under. Under one number come always the same bytes: that is for the broker to keep, and is taken for
+///   granted. Other bytes under the record's number are not refused, and the pixels are wrong; [`Record::header`] tells at least those of another
+///   header.
 /// - `out` holds, in its first [`Record::bytes_done`] bytes, what it held when the record came. From there on it may hold anything.
 ///
 /// Neither is about memory: with the wrong bytes the call is as safe, and answers nonsense.
