@@ -203,8 +203,8 @@ impl<'a, D: Disk> Worker<'a, D> {
     }
 }
 
-/// The record that a worker on this message and these channels has saved. That the bytes are the message's is looked at too, as a test of the broker: it
-/// gives one number to the same bytes alone.
+/// The record that a worker on this message and these channels has saved. The sum tests what is taken for granted of the broker: that one number always
+/// comes with the same bytes.
 fn saved_record<D: Disk>(
     disk: &D,
     job: &Job,
