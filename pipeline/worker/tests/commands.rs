@@ -160,7 +160,11 @@ fn a_damaged_record_is_refused_and_restarted() {
     let good = decoded("damaged-good").read("rec");
     let mut flipped = good.clone();
     flipped[100] ^= 4;
-    for (place, bad) in [&flipped, &good[1..], &good[..good.len() - 1], b""]
+    // the number, a byte, stands before the two sums
+    let mut unnamed = good[..good.len() - saved::SUM].to_vec();
+    unnamed.remove(unnamed.len() - saved::SUM - 1);
+    saved::add_sum(&mut unnamed);
+    for (place, bad) in [&flipped, &unnamed, &good[1..], &good[..good.len() - 1], b""]
         .into_iter()
         .enumerate()
     {
