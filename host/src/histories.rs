@@ -120,21 +120,15 @@ impl History<'_> {
 
     /// A worker finds a checkpoint of the previous hour, and is refused whatever the steps.
     fn find_previous(&mut self, random: &mut Random) -> Result<(), String> {
-        let (number, record) = match self.previous.take() {
+        let previous = match self.previous.take() {
             Some(previous) => previous,
             None => self.decode_previous(random)?,
         };
-        let stand = Stand {
-            message: self.message,
-            number: self.number,
-            trace: self.trace,
-            done: 0,
-            record: &record,
-        };
         let steps = self.some_steps(random);
-        self.output.refuses(random, stand, number, steps)?;
+        self.output
+            .refuses(random, self.message, self.number, &previous, steps)?;
         self.found += 1;
-        self.previous = Some((number, record));
+        self.previous = Some(previous);
         Ok(())
     }
 

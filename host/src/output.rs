@@ -222,34 +222,37 @@ impl Output {
         ))
     }
 
-    /// A run from a record of another message, whose number is this: it is refused, and nothing is written.
+    /// A run from another message's record, which comes with the number that it names: it is refused, and nothing is written.
     pub fn refuses(
         &mut self,
         random: &mut Random,
-        stand: Stand,
-        other: u64,
+        message: &[u8],
+        number: u64,
+        (other, record): &(u64, Vec<u8>),
         steps: u64,
     ) -> Result<(), String> {
         let (room, next_room) = (self.room(), random.between(LONGEST - 30, LONGEST));
         let mut nexts = vec![random.byte(); MARGIN + next_room + MARGIN];
         let nexts_model = nexts.clone();
         let ours = port::run(
-            stand.message,
-            stand.number,
-            stand.record,
+            message,
+            number,
+            record,
             &mut self.memory[MARGIN..][..room],
             steps,
             &mut nexts[MARGIN..][..next_room],
         );
-        let result = is_same(ours, of_another(other));
-        result
-            .and_then(
-                |()| match nexts == nexts_model && self.memory == self.model {
-                    true => Ok(()),
-                    false => Err(format!("{ours}, and something is written")),
-                },
-            )
-            .map_err(|text| format!("run of {steps} steps from message {other}'s record: {text}"))
+        let expected = of_another(*other);
+        let fault = if ours != expected {
+            format!("port {ours}, expected {expected}")
+        } else if nexts != nexts_model || self.memory != self.model {
+            format!("{ours}, and something is written")
+        } else {
+            return Ok(());
+        };
+        Err(format!(
+            "run of {steps} steps for message {number} from a record of message {other}: {fault}"
+        ))
     }
 
     /// What the Rust's uncut decode leaves over what something else than a worker left here last; and the same of the port's.

@@ -286,18 +286,10 @@ pub fn starts(check: &mut Check, random: &mut Random) {
         };
         let number = any_number(random);
         let length = first_length(number);
-        let rooms = [
-            0,
-            14,
-            277,
-            length - 1,
-            length,
-            length,
-            length + 1,
-            LONGEST,
-            1000,
-        ];
-        let room = *random.pick(&rooms);
+        let room = match random.below(2) {
+            0 => length - 1 + random.below(3),
+            _ => *random.pick(&[0, 14, 277, LONGEST, 1000]),
+        };
         let trace = Trace::new(&message, wanted, MOST);
         let answer = match &trace {
             Err(refusal) => refusal.number,

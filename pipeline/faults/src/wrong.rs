@@ -94,7 +94,7 @@ impl<'a> WrongDisk<'a> {
     }
 
     /// A record's file; where it is of another message, as it would be of the one that is to be decoded.
-    fn renamed_record(&self, bytes: Vec<u8>, job: &Job) -> io::Result<Vec<u8>> {
+    fn relabelled_record(&self, bytes: Vec<u8>, job: &Job) -> io::Result<Vec<u8>> {
         let number = match saved::from_bytes(&bytes, job.number) {
             Err(Error::OtherMessage { number }) => number,
             _ => return Ok(bytes),
@@ -202,7 +202,7 @@ impl<'a> Disk for WrongDisk<'a> {
         let bytes = self.seat.read(path)?;
         match self.job {
             Some(job) if self.wrong == Wrong::AnyRecord && job.record == path => {
-                self.renamed_record(bytes, job)
+                self.relabelled_record(bytes, job)
             }
             _ => Ok(bytes),
         }
