@@ -184,13 +184,13 @@ pub fn every_number(check: &mut Check, case: u64) {
     read(check, &mut Random::new(case), &record.write(), expected);
 }
 
-/// Records of another message than the one expected, whole and with one fault more: it is told of whole ones alone.
+/// Records of another message than the one expected, whole ones and damaged ones: of these other faults are told.
 pub fn other_messages(check: &mut Check, random: &mut Random) {
     let record = any_record(random);
     for _ in 0..20 {
         let mut bytes = record.write();
         if random.one_in(2) {
-            damage(random, &mut bytes, 0);
+            damage_before_slots(random, &mut bytes);
         }
         let expected = other_number(random, record.number);
         read(check, random, &bytes, expected);
@@ -205,17 +205,21 @@ pub fn truncations(check: &mut Check, random: &mut Random) {
     }
 }
 
+/// The slots are nine tenths of a record, and hardly any value of theirs is a fault.
+fn damage_before_slots(random: &mut Random, bytes: &mut Vec<u8>) {
+    let slots = bytes.split_off(35);
+    for _ in 0..random.between(1, 3) {
+        damage(random, bytes, 0);
+    }
+    bytes.extend(slots);
+}
+
 pub fn damaged(check: &mut Check, random: &mut Random) {
     let record = any_record(random);
     let good = record.write();
     for _ in 0..20 {
         let mut bytes = good.clone();
-        // the slots are nine tenths of a record, and hardly any value of theirs is a fault
-        let slots = bytes.split_off(35);
-        for _ in 0..random.between(1, 3) {
-            damage(random, &mut bytes, 0);
-        }
-        bytes.extend(slots);
+        damage_before_slots(random, &mut bytes);
         if random.one_in(4) {
             damage(random, &mut bytes, 0);
         }
