@@ -85,8 +85,8 @@ start-opaque header number Rgb = tt
 start-opaque header number Rgba = tt
 
 module _ (m : List ℕ) (w : ℕ) where
-  -- the message is accepted with this header, to so many channels: it starts under every number, which takes no part in
-  -- its decode
+  -- the message is accepted with this header and these channels wanted: it starts under every number, which takes no
+  -- part in its decode
   abbrev Opens : Header → ℕ → Type 0
   Opens header wanted = (number : ℕ) → starting m number w ≡ started (startState header number wanted)
 

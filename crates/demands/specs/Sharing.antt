@@ -34,13 +34,15 @@ pub data Shared (m : List ℕ) (number w : ℕ) : List Worker → List ℕ → L
       → Shared m number w ((s, s) ∷ ws) o b since saved
   -- one of them makes a step: what the store showed before may come back
   steps :
-      (left right : List Worker) (s f : State) {s′ : State} {o b bytes : List ℕ} {since : List (List ℕ)} {saved : List State}
-      → Shared m number w (left ++ ((s, f) ∷ right)) o b since saved → step s m (length o) ≡ more s′ bytes
+      (left right : List Worker) (s f : State) {s′ : State} {o b bytes : List ℕ} {since : List (List ℕ)}
+      {saved : List State} → Shared m number w (left ++ ((s, f) ∷ right)) o b since saved
+      → step s m (length o) ≡ more s′ bytes
       → Shared m number w (left ++ ((s′, f) ∷ right)) (steppedOver s bytes o) b (o ∷ since) saved
   -- one of them stops inside a step; it may make the step again, so steps may mix byte by byte
   stops-inside :
-      (left right : List Worker) (s f : State) {s′ : State} {o b bytes : List ℕ} {since : List (List ℕ)} {saved : List State} (o′ : List ℕ)
-      → Shared m number w (left ++ ((s, f) ∷ right)) o b since saved → step s m (length o) ≡ more s′ bytes
+      (left right : List Worker) (s f : State) {s′ : State} {o b bytes : List ℕ} {since : List (List ℕ)}
+      {saved : List State} (o′ : List ℕ) → Shared m number w (left ++ ((s, f) ∷ right)) o b since saved
+      → step s m (length o) ≡ more s′ bytes
       → Partly o (steppedOver s bytes o) o′ → Shared m number w (left ++ ((s, f) ∷ right)) o′ b (o ∷ since) saved
   -- one of them flushes: the output lasts as it is
   flushes :

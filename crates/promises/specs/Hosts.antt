@@ -27,8 +27,8 @@ returned figures = getD figures 0 0
 abbrev pub recordRoom : ℕ
 recordRoom = 300
 
--- A host's history of message m under its number, at wanted w: the record in its hands, the output now, and the output as the last
--- take-up, or the start, found it.
+-- A host's history of message m under its number, at wanted w: the record in its hands, the output now, and the output
+-- as the last take-up, or the start, found it.
 pub data Host (m : List ℕ) (number w : ℕ) : List ℕ → List ℕ → List ℕ → Type 0 where
   -- pivotshade_start returned 0: the record is the first n bytes of the part lent for it; the message's length and its
   -- number fit 64 bits, as their types say
@@ -40,7 +40,8 @@ pub data Host (m : List ℕ) (number w : ℕ) : List ℕ → List ℕ → List �
   runs :
       {r o b : List ℕ} → Host m number w r o b → (steps : ℕ) (next : List ℕ) (n : ℕ)
       → hostFigures m steps o next (readRecord number r) ≡ says 256 n
-      → Host m number w (take n (hostNext m steps o next (readRecord number r))) (hostOut m steps o (readRecord number r)) b
+      → Host m number w (take n (hostNext m steps o next (readRecord number r)))
+      (hostOut m steps o (readRecord number r)) b
   -- a record kept, however long ago, is handed in on any output that holds before its pixel what the output of that
   -- moment held
   takes-over :
@@ -63,12 +64,14 @@ pub record TakesOver (m : List ℕ) (number w : ℕ) (r o b : List ℕ) : Type 0
   pub ends-as-decode :
       (steps : ℕ) (next : List ℕ) → recordRoom ≤ length next
       → (returned (hostFigures m steps o next (readRecord number r)) ≡ 256 → ⊥)
-      → EndsAsDecode m w b next (hostFigures m steps o next (readRecord number r)) (hostOut m steps o (readRecord number r))
+      → EndsAsDecode m w b next (hostFigures m steps o next (readRecord number r))
+      (hostOut m steps o (readRecord number r))
       (hostNext m steps o next (readRecord number r))
   -- one that returns 256 leads to a record with fewer steps left, by as many as it was given
   pub nearer :
       (steps : ℕ) (next : List ℕ) (n : ℕ) → hostFigures m steps o next (readRecord number r) ≡ says 256 n
-      → (s′ : State) × (readRecord number (take n (hostNext m steps o next (readRecord number r))) ≡ started s′) × (stepsLeft s′ + steps ≤ stepsLeft state)
+      → (s′ : State) × (readRecord number (take n (hostNext m steps o next (readRecord number r))) ≡ started s′)
+      × (stepsLeft s′ + steps ≤ stepsLeft state)
   -- with the pixels left plus one steps, or more, it does not return 256
   pub ends-within :
       (steps : ℕ) (next : List ℕ) → stepsLeft state ≤ steps
@@ -88,11 +91,13 @@ pub record TestsRecord (m : List ℕ) (number : ℕ) (r o next : List ℕ) : Typ
   -- a record that is not read: its refusal, and no next one
   pub refuses :
       (e : Error) → readRecord number r ≡ notStarted e
-      → (hostFigures m 0 o next (readRecord number r) ≡ refusalFigures e) × (hostNext m 0 o next (readRecord number r) ≡ next)
+      → (hostFigures m 0 o next (readRecord number r) ≡ refusalFigures e)
+      × (hostNext m 0 o next (readRecord number r) ≡ next)
   -- one that is read: 256, and the same record
   pub accepts :
       (s : State) → readRecord number r ≡ started s
-      → (hostFigures m 0 o next (readRecord number r) ≡ says 256 (length r)) × (hostNext m 0 o next (readRecord number r) ≡ writtenOver r next)
+      → (hostFigures m 0 o next (readRecord number r) ≡ says 256 (length r))
+      × (hostNext m 0 o next (readRecord number r) ≡ writtenOver r next)
 
 -- some host's record, of any message that was delivered: bytes r that a history of that message has led to, and the
 -- output o of that moment

@@ -33,7 +33,7 @@ use Rattle.resume.specs.declared.StepAnswer.{StepAnswer}
 use Rattle.resume.specs.Run.{ranBy, endAnswer}
 use Rattle.walk.specs.Walking.{Walk, walking, standing, walkOn, fits, walkingInto}
 
--- a state of a message's picture at a place, with so many pixels left
+-- a state of a message's picture at a place, with `left` pixels left
 abbrev pub stateLeft : Header → ℕ → ℕ → Place → ℕ → State
 stateLeft header number wanted place left =
     record { header = header; wanted = wanted; place = place; left = left; number = number }
