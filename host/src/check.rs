@@ -177,7 +177,7 @@ impl Check {
         }
     }
 
-    /// So many records of the previous hour were found in a history.
+    /// Adds the records of the previous hour that a history found.
     pub fn found_previous(&mut self, times: u64) {
         self.tally.previous += times;
     }

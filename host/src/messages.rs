@@ -323,7 +323,7 @@ pub fn previous_hour(random: &mut Random, message: &[u8]) -> Vec<u8> {
     [header, &chunks.bytes, &MARKER].concat()
 }
 
-/// A number that a broker may give a message: 0, the largest, the first or the last of so many bits, or any.
+/// A number that a broker may give a message: 0, the largest, the first or the last of any length in bits, or any.
 pub fn any_number(random: &mut Random) -> u64 {
     let power = 1 << random.below(64);
     match random.below(6) {

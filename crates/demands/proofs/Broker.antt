@@ -13,6 +13,15 @@ use Rattle.demands.specs.TakeOver.{bytesBefore, Life, taken-up, stepsLef
 use Rattle.demands.specs.Broker.{Broker, AnyCheckpoint}
 use Rattle.demands.proofs.TakeOver.{taken-so, lived, take-over}
 
+-- a worker on another message than the one that a checkpoint is of gets 12, with that one's number
+pub another-message :
+    {m : List ℕ} {number w : ℕ} {s : State} {o b : List ℕ} → Life m number w s o b
+    → (other : ℕ) → (number ≡ other → ⊥) → readRecord other (recordBytes s) ≡ notStarted (OtherMessage number)
+another-message {s = s} life other differs =
+    let l = lived life in
+    rw (← l .under)
+    (record-of-another s (l .on-course .typed) (l .on-course .well) other (λ same. differs (sym (l .under) ∙ same)))
+
 module _ (broker : Broker) {s : State} {o : List ℕ} (c : AnyCheckpoint broker s o) where
   -- a worker to which m was delivered reads it under m's number: then it is a checkpoint of m
   pub any-checkpoint :
@@ -31,11 +40,3 @@ module _ (broker : Broker) {s : State} {o : List ℕ} (c : AnyCheckpoint broker 
       → take (bytesBefore s) o′ ≡ take (bytesBefore s) o → readRecord number (recordBytes s) ≡ started s′
       → EndsAsUncut m (c .wanted) o′ (running m (stepsLeft s′) s′ o′)
   any-checkpoint-ends delivered o′ agrees reads = take-over (any-checkpoint delivered o′ agrees reads)
-
-  -- a worker on another message gets 12, with the number of the message that it is of
-  pub another-message :
-      (number : ℕ) → (c .number ≡ number → ⊥) → readRecord number (recordBytes s) ≡ notStarted (OtherMessage (c .number))
-  another-message number other =
-      let l = lived (c .history) in
-      rw (← l .under)
-      (record-of-another s (l .on-course .typed) (l .on-course .well) number (λ same. other (sym (l .under) ∙ same)))

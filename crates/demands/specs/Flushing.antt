@@ -26,8 +26,8 @@ pub record Torn (o : List ℕ) (since : List (List ℕ)) (saved : List State) (o
 -- A history of message m under its number, at wanted w, over a store: the state; the output that the store shows; the
 -- output as the last take-up, or the start, found it; the outputs shown before, back to the last flush; the state at
 -- that flush, which the worker remembers; the states whose records are saved for good.
-pub data Stored (m :
-    List ℕ) (number w : ℕ) : State → List ℕ → List ℕ → List (List ℕ) → State → List State → Type 0 where
+pub data Stored (m : List ℕ) (number w : ℕ) :
+    State → List ℕ → List ℕ → List (List ℕ) → State → List State → Type 0 where
   -- a start on any output, which lasts; to start anew needs no byte of it, so the start's record counts as saved
   begun :
       {s : State} (o : List ℕ) → length m < 2 ^ 64 → number < 2 ^ 64 → starting m number w ≡ started s

@@ -1,4 +1,4 @@
-// The refusals of document 01 and, of document 02, 12 of Q-7 and 19 to 21 of Q-13: each one's number, figures and words.
+// The refusals of document 01, and of document 02 12 (Q-7) and 19 to 21 (Q-13): number, figures and words of each.
 ghost use mathlib.Core.Path.{_≡_};
 ghost use lib.ListN.{length};
 ghost use Rattle.text.specs.Text.{textOf, putOver};

@@ -249,6 +249,20 @@ record-alone m number r o next are roomy =
     stays (started s) = refl
     stays (notStarted e) = refl
 
+-- a host on another message than the one that its record is of gets 12, with that one's number, and nothing changes
+pub host-another-message :
+    {m : List ℕ} {number w : ℕ} {r o b : List ℕ} → Host m number w r o b
+    → (m′ : List ℕ) (other : ℕ) → (number ≡ other → ⊥) → RefusesAnother m′ other r number
+host-another-message {number = number} {r = r} host m′ other differs =
+    let l = lives host in
+    let refuses : readRecord other r ≡ notStarted (OtherMessage number) =
+    ap (readRecord other) (l .is) ∙ another-message (l .life) other differs in
+    record {
+      figures-are = λ steps o next. rw refuses;
+      output-stays = λ steps o. rw refuses;
+      next-stays = λ steps o next. rw refuses;
+    }
+
 module _ (broker : Broker) {r o : List ℕ} (c : AnyRecord broker r o) where
   -- the checkpoint that a record is
   abbrev checkpoint-of : AnyCheckpoint broker (lives (c .history) .state) o
@@ -273,15 +287,3 @@ module _ (broker : Broker) {r o : List ℕ} (c : AnyRecord broker r o) where
       let agrees′ = rw (← same) at agrees in
       let life = any-checkpoint broker checkpoint-of delivered o′ agrees′ reads in
       rw (l .is ∙ ap recordBytes same) (life-takes-over s life)
-
-  -- a host on another message gets 12, with the number of the message that it is of, and nothing changes
-  pub host-another-message :
-      (m : List ℕ) (number : ℕ) → (c .number ≡ number → ⊥) → RefusesAnother m number r (c .number)
-  host-another-message m number other =
-      let refuses : readRecord number r ≡ notStarted (OtherMessage (c .number)) =
-      ap (readRecord number) (lives (c .history) .is) ∙ another-message broker checkpoint-of number other in
-      record {
-        figures-are = λ steps o next. rw refuses;
-        output-stays = λ steps o. rw refuses;
-        next-stays = λ steps o next. rw refuses;
-      }

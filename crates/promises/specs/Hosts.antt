@@ -109,10 +109,10 @@ pub record AnyRecord (broker : Broker) (r o : List ℕ) : Type 0 where
   pub delivered : broker .delivers number message
   pub history : Host message number wanted r o found
 
--- a run of message m under its number refuses record r with 12 and the number that it found, and changes nothing
-pub record RefusesAnother (m : List ℕ) (number : ℕ) (r : List ℕ) (other : ℕ) : Type 0 where
+-- a run of message m under its number refuses record r with 12 and the number `found` in it, and changes nothing
+pub record RefusesAnother (m : List ℕ) (number : ℕ) (r : List ℕ) (found : ℕ) : Type 0 where
   pub figures-are :
       (steps : ℕ) (o next : List ℕ)
-      → hostFigures m steps o next (readRecord number r) ≡ refusalFigures (OtherMessage other)
+      → hostFigures m steps o next (readRecord number r) ≡ refusalFigures (OtherMessage found)
   pub output-stays : (steps : ℕ) (o : List ℕ) → hostOut m steps o (readRecord number r) ≡ o
   pub next-stays : (steps : ℕ) (o next : List ℕ) → hostNext m steps o next (readRecord number r) ≡ next

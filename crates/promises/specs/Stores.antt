@@ -12,8 +12,8 @@ use Rattle.qoi.specs.Hosted.{startedOver, hostOut, hostNext}
 -- After a run from record r on output o that returned 256 with n, a flush of the output, and the saving of the first
 -- n bytes of the part for the next record: they are the record of a state, and the history over the store goes on from
 -- there, with that state among the saved ones.
-pub record Checkpoint (m :
-    List ℕ) (number w : ℕ) (r o b : List ℕ) (saved : List State) (steps : ℕ) (next : List ℕ) (n : ℕ) : Type 0 where
+pub record Checkpoint (m : List ℕ) (number w : ℕ) (r o b : List ℕ) (saved : List State) (steps : ℕ) (next : List ℕ)
+    (n : ℕ) : Type 0 where
   pub state : State
   pub record-is : take n (hostNext m steps o next (readRecord number r)) ≡ recordBytes state
   pub history : Stored m number w state (hostOut m steps o (readRecord number r)) b [] state (state ∷ saved)

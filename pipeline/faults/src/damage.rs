@@ -19,9 +19,9 @@ enum Damage {
     RecordFlipped,
     RecordCut,
     RecordLonger,
-    /// The record, with its output, is the previous hour's, whose message has the same header: the number alone tells it.
+    /// The record, with its output, is the previous hour's, whose message has the same header: the number tells it, before the sum does.
     PreviousHour,
-    /// The record is of another message, with another header.
+    /// The record is of another message, of any size.
     OtherMessage,
     /// The record is of other bytes under the same number.
     OtherBytes,
@@ -54,7 +54,7 @@ pub struct Refused {
     pub other_messages: usize,
 }
 
-/// Does each damage so many times.
+/// Does each damage `times` times.
 pub fn damage(bench: &Bench, random: &mut Random, times: usize) -> Result<Refused, String> {
     let mut counts = Refused::default();
     for damage in DAMAGES.iter().cycle().take(DAMAGES.len() * times) {
