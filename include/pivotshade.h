@@ -65,7 +65,7 @@ uint64_t pivotshade_start(const uint8_t *msg, size_t len, uint64_t number, uint6
 
    Whose refusal it is, and what it leaves:
    - 2, 3, 4, 5 and 9 are the record's; out is as it was.
-   - 12 is the record's: it is whole, and of the message whose number is the figure. out is as it was.
+   - 12 is the record's: it is whole, and names another message, whose number is the figure. out is as it was.
    - 1 is the record's, cut short, or the message's: a call with 0 steps tells which.
    - 1 and 8 of the message leave out as pivotshade_decode leaves it.
    - 7 is out's, which is then as it was. Where next has less than PIVOTSHADE_RECORD_MAX bytes it may be next's: then the steps are done, and

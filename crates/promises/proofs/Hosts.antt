@@ -27,7 +27,7 @@ use Rattle.rules.specs.Record.{Recorded, recorded, notRecorded, recording, reco
 use Rattle.rules.proofs.RecordLaws.{record-length}
 use Rattle.rules.proofs.RecordAgainLaws.{record-written-back, record-well-formed, record-short}
 use Rattle.demands.specs.TakeOver.{bytesBefore, Life, begun, taken-up, stepsLeft}
-use Rattle.demands.specs.Broker.{Broker, AnyCheckpoint}
+use Rattle.demands.specs.Broker.{Broker}
 use Rattle.demands.specs.Inside.{StoppedInside}
 use Rattle.demands.proofs.TakeOver.{reached-readable, reached-taken, reached-well-formed, reached-adds-up, enough-steps, run-lives, run-ends-as-uncut}
 use Rattle.demands.proofs.Broker.{any-checkpoint, another-message}
@@ -35,7 +35,7 @@ use Rattle.demands.proofs.Steps.{run-keeps-before, run-further}
 use Rattle.demands.proofs.Inside.{inside-keeps-before}
 use Rattle.demands.proofs.Written.{written-record}
 use Rattle.qoi.specs.Hosted.{startedFigures, startedOver, recordedFigures, ranFigures, ranNext, hostFigures, hostOut, hostNext}
-use Rattle.promises.specs.Hosts.{says, returned, recordRoom, Host, starts, runs, takes-over, EndsAsDecode, TakesOver, Starts, TestsRecord, AnyRecord, RefusesAnother}
+use Rattle.promises.specs.Hosts.{says, returned, recordRoom, Host, starts, runs, takes-over, EndsAsDecode, TakesOver, Starts, TestsRecord, RefusesAnother}
 
 -- what refuses a start refuses the decode
 refused-start :
@@ -263,27 +263,16 @@ host-another-message {number = number} {r = r} host m′ other differs =
       next-stays = λ steps o next. rw refuses;
     }
 
-module _ (broker : Broker) {r o : List ℕ} (c : AnyRecord broker r o) where
-  -- the checkpoint that a record is
-  abbrev checkpoint-of : AnyCheckpoint broker (lives (c .history) .state) o
-  checkpoint-of =
-      record {
-        message = c .message;
-        number = c .number;
-        wanted = c .wanted;
-        found = c .found;
-        delivered = c .delivered;
-        history = lives (c .history) .life;
-      }
-
-  -- a host to which m was delivered hands it in under m's number: if it is read, it ends as pivotshade_decode of m
-  pub host-any-record :
-      {m : List ℕ} {number : ℕ} → broker .delivers number m → (s : State) → readRecord number r ≡ started s
-      → (o′ : List ℕ) → take (bytesBefore s) o′ ≡ take (bytesBefore s) o → TakesOver m number (c .wanted) r o′ o′
-  host-any-record {m} {number} delivered s is o′ agrees =
-      let l = lives (c .history) in
-      let reads = rw (l .is) at is in
-      let same = reached-taken (l .life) number reads in
-      let agrees′ = rw (← same) at agrees in
-      let life = any-checkpoint broker checkpoint-of delivered o′ agrees′ reads in
-      rw (l .is ∙ ap recordBytes same) (life-takes-over s life)
+-- a host to which m was delivered hands in, under m's number, some host's record of any message m′ that was ever
+-- delivered: if it is read, it ends as pivotshade_decode of m
+pub host-any-record :
+    (broker : Broker) {m m′ : List ℕ} {number number′ w : ℕ} {r o b : List ℕ}
+    → broker .delivers number m → broker .delivers number′ m′ → Host m′ number′ w r o b
+    → (s : State) → readRecord number r ≡ started s → (o′ : List ℕ) → take (bytesBefore s) o′ ≡ take (bytesBefore s) o
+    → TakesOver m number w r o′ o′
+host-any-record broker {number = number} delivered delivered′ host s is o′ agrees =
+    let l = lives host in
+    let reads = rw (l .is) at is in
+    let same = reached-taken (l .life) number reads in
+    let life = any-checkpoint broker delivered delivered′ (l .life) o′ (rw (← same) at agrees) reads in
+    rw (l .is ∙ ap recordBytes same) (life-takes-over s life)

@@ -12,7 +12,6 @@ use Rattle.rules.specs.Figures.{answerFigures, refusalFigures}
 use Rattle.rules.specs.Step.{State, started, notStarted, starting}
 use Rattle.rules.specs.Record.{readRecord}
 use Rattle.demands.specs.TakeOver.{bytesBefore, stepsLeft}
-use Rattle.demands.specs.Broker.{Broker}
 use Rattle.qoi.specs.Hosted.{startedFigures, startedOver, hostFigures, hostOut, hostNext}
 
 -- a number with one figure: 0 or 256, and a record's length
@@ -98,16 +97,6 @@ pub record TestsRecord (m : List ℕ) (number : ℕ) (r o next : List ℕ) : Typ
       (s : State) → readRecord number r ≡ started s
       → (hostFigures m 0 o next (readRecord number r) ≡ says 256 (length r))
       × (hostNext m 0 o next (readRecord number r) ≡ writtenOver r next)
-
--- some host's record, of any message that was delivered: bytes r that a history of that message has led to, and the
--- output o of that moment
-pub record AnyRecord (broker : Broker) (r o : List ℕ) : Type 0 where
-  pub message : List ℕ
-  pub number : ℕ
-  pub wanted : ℕ
-  pub found : List ℕ
-  pub delivered : broker .delivers number message
-  pub history : Host message number wanted r o found
 
 -- a run of message m under its number refuses record r with 12 and the number `found` in it, and changes nothing
 pub record RefusesAnother (m : List ℕ) (number : ℕ) (r : List ℕ) (found : ℕ) : Type 0 where
