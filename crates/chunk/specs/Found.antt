@@ -12,7 +12,8 @@ use Rattle.rules.specs.Chunk.{Chunk, INDEX, DIFF, LUMA, RUN, RGB, RGBA, Stuck, 
 use Rattle.rules.specs.Chunk as rules
 use Rattle.rules.specs.Bytes.{sameBytes}
 use Rattle.rules.specs.Reading.{Answer, done, refused, marker}
-use Rattle.pixel.specs.declared.error.Error.the-variants.{UnexpectedBufferEnd, InvalidPadding}
+use Rattle.pixel.specs.declared.error.Error.the-variants.{InvalidPadding}
+use Rattle.pixel.specs.Refusal.{endedEarly}
 use Rattle.chunk.specs.declared.Ending.{Ending}
 use Rattle.chunk.specs.declared.Ending.the-variants as ending
 
@@ -38,6 +39,6 @@ endingAt part =
 
 -- the answer that an ending gives at a byte position, for `size` bytes written
 abbrev pub closedBy : ℕ → ℕ → Ending → Answer
-closedBy size at ending.Cut = refused UnexpectedBufferEnd
+closedBy size at ending.Cut = refused endedEarly
 closedBy size at ending.Wrong = refused InvalidPadding
 closedBy size at ending.Marker = done size (at + 8)

@@ -10,7 +10,7 @@ use native.Mathlib.Omega.{arith}
 use borrow.Author.Tests.{ltb-true, ltb-false, lt-ltb, le-ltb, le-leb, eq-eqb}
 use lib.Dec.{ltb}
 use lib.ListN.{length, drop}
-use Rattle.pixel.specs.declared.error.Error.the-variants.{UnexpectedBufferEnd}
+use Rattle.pixel.specs.Refusal.{endedEarly}
 use Rattle.pixel.specs.declared.types.Channels.{Channels}
 use Rattle.pixel.specs.declared.types.Channels.the-variants.{Rgb, Rgba}
 use Rattle.pixel.specs.Types.{channelsNumber}
@@ -49,7 +49,7 @@ module _ (header : Header) (wanted : ℕ) (message : List ℕ) (few : wanted ≤
   -- a walk's end is that of a reading into an output from a place on
   record Ends (w : End) (r : Reading) (from : ℕ) (out : List ℕ) : Type 0 where
     pub inside : w .at ≤ length message
-    pub answers : r .answer ≡ cond (w .cut) (refused UnexpectedBufferEnd) (test (w .at))
+    pub answers : r .answer ≡ cond (w .cut) (refused endedEarly) (test (w .at))
     pub writes : w .out ≡ pasted from (r .bytes) out
 
   -- a place of this picture, and room for its pixels
@@ -97,9 +97,9 @@ module _ (header : Header) (wanted : ℕ) (message : List ℕ) (few : wanted ≤
     reads-cut : (n : ℕ) → there ≡ cut → EndsFrom (suc n) place out
     unfolding walking move moveBy
     reads-cut n found =
-        let stops : move decoder header wanted message place ≡ end (refused UnexpectedBufferEnd) =
+        let stops : move decoder header wanted message place ≡ end (refused endedEarly) =
         rw (lt-ltb (place .pixel) (pixelCount header) missing, found) in
-        let ends : left place ≡ silent (refused UnexpectedBufferEnd) =
+        let ends : left place ≡ silent (refused endedEarly) =
         remaining-unfolds decoder header wanted message place ∙ ap (readOn left) stops in
         rw (ends, lt-ltb (place .pixel) (pixelCount header) missing, found)
         (record { inside = ready .inside; answers = refl; writes = sym (pasted-none out (place .pixel * wanted)) })
@@ -243,7 +243,7 @@ module _ (header : Header) (w : Channels) (message out : List ℕ) (opened : Ope
 
     -- a chunk is cut short
     pub ends-cut :
-        e .cut ≡ true → (refused UnexpectedBufferEnd ≡ asked .answer) × (e .out ≡ writtenOver (asked .bytes) out)
+        e .cut ≡ true → (refused endedEarly ≡ asked .answer) × (e .out ≡ writtenOver (asked .bytes) out)
     ends-cut short = (rw into (sym (rw short at (reads .answers))), written-over)
 
     -- no pixel is missing

@@ -57,7 +57,7 @@ fn with_channels(message: &[u8], header: Header, wanted: Channels, out: &mut [u8
     }
     let whole = walk::whole(message, header, wanted, out);
     if whole.cut {
-        return Decoded::Refused(Error::UnexpectedBufferEnd);
+        return Decoded::Refused(Error::UnexpectedBufferEnd { at: 0 });
     }
     close(message, whole.at, required)
 }
@@ -68,7 +68,7 @@ fn close(message: &[u8], at: usize, size: usize) -> Decoded
     ensures { λ r. ⌜ answerOf r ≡ closing size (now (message .entry)) at ⌝ }
 {
     match chunk::read_end(&message[at..]) {
-        Ending::Cut => Decoded::Refused(Error::UnexpectedBufferEnd),
+        Ending::Cut => Decoded::Refused(Error::UnexpectedBufferEnd { at: 0 }),
         Ending::Wrong => Decoded::Refused(Error::InvalidPadding),
         Ending::Marker => Decoded::Done { size, used: at + 8 },
     }

@@ -13,7 +13,8 @@ use lib.Dec.{T, ltb, leb, eqb}
 use lib.ListN.{length, drop, length-drop}
 use Rattle.pixel.specs.declared.Pixel.{Pixel}
 use Rattle.pixel.specs.declared.error.Error.{Error}
-use Rattle.pixel.specs.declared.error.Error.the-variants.{InvalidPadding, OutputBufferTooSmall, RunPastImage, BytesAfterMarker, UnexpectedBufferEnd}
+use Rattle.pixel.specs.declared.error.Error.the-variants.{InvalidPadding, OutputBufferTooSmall, RunPastImage, BytesAfterMarker}
+use Rattle.pixel.specs.Refusal.{endedEarly}
 use Rattle.pixel.specs.declared.types.Channels.{Channels}
 use Rattle.pixel.specs.declared.types.ChannelsRead.{ChannelsRead}
 use Rattle.pixel.specs.declared.types.ChannelsRead.the-variants as channels-read
@@ -82,8 +83,8 @@ module _ (header : Header) (message : List ℕ) (wanted : ℕ) where
       go :
           (short : Bool) → ltb (length (drop at message)) 8 ≡ short → (marked : Bool)
           → Verdict chunks
-          (strictClosed header message chunks (cond short (refused UnexpectedBufferEnd) (cond marked (done 0 (at + 8)) (refused InvalidPadding))))
-          (cond short (refused UnexpectedBufferEnd) (cond marked (done (sizeWanted header wanted) (at + 8)) (refused InvalidPadding))) []
+          (strictClosed header message chunks (cond short (refused endedEarly) (cond marked (done 0 (at + 8)) (refused InvalidPadding))))
+          (cond short (refused endedEarly) (cond marked (done (sizeWanted header wanted) (at + 8)) (refused InvalidPadding))) []
       go true e marked = fails _ refl (λ size used p whole t. refused-is-not-done p)
       go false e true = last (ltb (at + 8) (length message)) refl (ltb-false _ _ e)
       go false e false = fails _ refl (λ size used p whole t. refused-is-not-done p)

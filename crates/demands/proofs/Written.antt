@@ -10,7 +10,8 @@ use lib.Dec.{ltb}
 use lib.ListN.{length, take, drop}
 use lib.Seq.{take-at}
 use Rattle.pixel.specs.declared.error.Error.{Error}
-use Rattle.pixel.specs.declared.error.Error.the-variants.{BadState, OutputBufferTooSmall}
+use Rattle.pixel.specs.declared.error.Error.the-variants.{OutputBufferTooSmall}
+use Rattle.pixel.specs.Refusal.{badState}
 use Rattle.rules.specs.Bytes.{writtenOver}
 use Rattle.rules.specs.Step.{State, wellFormed}
 use Rattle.rules.specs.Record.{recorded, notRecorded, recordBytes, recording, recordedOver}
@@ -27,7 +28,7 @@ written-record s out n e = go (wellFormed s) (ltb (length out) (length (recordBy
   where
     go :
         (well short : Bool)
-        → cond well (cond short (notRecorded (OutputBufferTooSmall (length out) (length (recordBytes s)))) (recorded (length (recordBytes s)))) (notRecorded BadState) ≡ recorded n
+        → cond well (cond short (notRecorded (OutputBufferTooSmall (length out) (length (recordBytes s)))) (recorded (length (recordBytes s)))) (notRecorded badState) ≡ recorded n
         → take n (cond well (cond short out (writtenOver (recordBytes s) out)) out) ≡ recordBytes s
     go true false e =
         rw (zero-add (length (recordBytes s))) (take-at (recordBytes s) (drop (length (recordBytes s)) out) n (same-length e))

@@ -6,7 +6,8 @@ use Prim.Native.Nat.{ℕ, _+_, _-_, _*_, _/_, _%_, _^_, min}
 use lib.Dec.{ltb, leb, eqb}
 use lib.ListN.{length, getD}
 use Rattle.pixel.specs.Types.{channelsNumber, colorSpaceNumber, channelsFrom, colorSpaceFrom}
-use Rattle.pixel.specs.declared.error.Error.the-variants.{UnexpectedBufferEnd, InvalidMagic, InvalidImageDimensions}
+use Rattle.pixel.specs.declared.error.Error.the-variants.{InvalidMagic, InvalidImageDimensions}
+use Rattle.pixel.specs.Refusal.{endedEarly}
 use Rattle.pixel.specs.declared.types.Channels.{Channels}
 use Rattle.pixel.specs.declared.types.Channels.the-variants.{Rgb}
 use Rattle.pixel.specs.declared.types.ColorSpace.{ColorSpace}
@@ -73,7 +74,7 @@ afterChannels bytes (channels-read.Ok channels) = afterColorSpace bytes channels
 -- header order: length under 14 (1), 2, 3, 4, 5
 unfoldable pub headerOf : List ℕ → HeaderRead
 headerOf bytes =
-    cond (ltb (length bytes) 14) (Refused UnexpectedBufferEnd) (afterChannels bytes (channelsFrom (getD bytes 12 0)))
+    cond (ltb (length bytes) 14) (Refused endedEarly) (afterChannels bytes (channelsFrom (getD bytes 12 0)))
 
 -- one pixel, three channels, sRGB
 abbrev pub defaultHeader : Header

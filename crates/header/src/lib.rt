@@ -129,7 +129,7 @@ impl Header {
         ensures { λ r. ⌜ r ≡ headerOf (now (message .entry)) ⌝ }
     {
         if message.len() < QOI_HEADER_SIZE {
-            return HeaderRead::Refused(Error::UnexpectedBufferEnd);
+            return HeaderRead::Refused(Error::UnexpectedBufferEnd { at: 0 });
         }
         after_channels(message, Channels::try_from(wide(message[12])))
     }

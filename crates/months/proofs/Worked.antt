@@ -5,7 +5,8 @@ use mathlib.Core.Path.{_≡_, refl}
 use mathlib.Core.List.{List, [], _∷_, _++_}
 use Prim.Native.Nat.{ℕ, _-_, _^_}
 use lib.ListN.{set, replicate}
-use Rattle.pixel.specs.declared.error.Error.the-variants.{UnexpectedBufferEnd, InvalidChannels, InvalidHour, InvalidCellCount, TotalTooLarge}
+use Rattle.pixel.specs.declared.error.Error.the-variants.{InvalidChannels, InvalidHour, InvalidCellCount, TotalTooLarge}
+use Rattle.pixel.specs.Refusal.{endedEarly}
 use Rattle.pixel.specs.declared.types.Channels.{Channels}
 use Rattle.pixel.specs.declared.types.Channels.the-variants.{Rgb, Rgba}
 use Rattle.pixel.specs.declared.types.ColorSpace.the-variants.{Srgb}
@@ -70,7 +71,7 @@ marked = record { totals = 0 ∷ 0 ∷ []; marks = set (replicate 744 0) 5 7 }
 pub at-work :
     (answers (fresh 1) calls
     ≡ (Refused (InvalidChannels 3)
-    ∷ Refused UnexpectedBufferEnd
+    ∷ Refused endedEarly
     ∷ Refused (InvalidCellCount 2 1)
     ∷ Done 27
     ∷ Already

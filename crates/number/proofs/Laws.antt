@@ -9,14 +9,14 @@ use native.Mathlib.Numerals.{add-one}
 use native.Mathlib.Decide.{decLe}
 use native.Mathlib.Omega.{arith}
 use lib.Dec.{eqb}
-use lib.ListN.{length, take, drop}
-use lib.Seq.{drop-append-seam}
+use lib.ListN.{length, take, drop, length-drop, take-append-drop}
+use lib.Seq.{drop-append-seam, getD-drop, drop-drop}
 use borrow.Author.Tests.{eqb-true, eqb-false, lt-ltb, le-ltb, eq-eqb, ne-eqb}
 use Rattle.pixel.specs.Bytes.{AllBytes}
 use Rattle.pixel.specs.declared.error.Error.the-variants.{BadState}
 use Rattle.number.specs.declared.NumberRead.{NumberRead}
 use Rattle.number.specs.declared.NumberRead.the-variants as read
-use Rattle.number.specs.Seven.{sevenBits, sevenBitsOf, readNumber, readMore, groupBelow}
+use Rattle.number.specs.Seven.{sevenBits, sevenBitsOf, readNumber, readFirst, readMore, groupBelow}
 
 -- a number is one group of seven bits, or more
 by-size : {P : Type 0} (n : ℕ) → (n < 128 → P) → (128 ≤ n → P) → P
@@ -98,30 +98,38 @@ below-written n used =
     rw (back, add-one)
 
 -- bytes after the first read back: they stand for a number above 0
-more-read-written : (more n : ℕ) (rest : List ℕ) → 1 ≤ n → n < 2 * 128 ^ more
-    → readMore more (sevenBitsOf more n ++ rest) ≡ read.Number n (length (sevenBitsOf more n))
+more-read-written : (start more n : ℕ) (rest : List ℕ) → 1 ≤ n → n < 2 * 128 ^ more
+    → readMore start more (sevenBitsOf more n ++ rest) ≡ read.Number n (length (sevenBitsOf more n))
 unfolding readMore sevenBitsOf
-more-read-written zero n rest some fits =
+more-read-written start zero n rest some fits =
     let one : n ≡ 1 = omega arith in
     rw (eq-eqb n 1 one, one)
-more-read-written (suc more) n rest some fits =
+more-read-written start (suc more) n rest some fits =
     by-size n (λ low. rw (last-byte (suc more) n low, lt-ltb n 128 low, ne-eqb n 0 (omega arith)))
     (λ high.
-    rw (next-byte more n high, le-ltb (128 + n % 128) 128 (omega arith), more-read-written more (n / 128) rest (omega arith) (omega (arith, pow-suc 128 more)))
+    rw (next-byte more n high, le-ltb (128 + n % 128) 128 (omega arith), more-read-written start more (n / 128) rest (omega arith) (omega (arith, pow-suc 128 more)))
     (below-written n (length (sevenBitsOf more (n / 128)))))
 
--- reading a written number gives it back
-pub read-written : (n : ℕ) (rest : List ℕ) → n < 2 ^ 64 → readNumber (sevenBits n ++ rest) ≡ read.Number n (length (sevenBits n))
-unfolding readNumber sevenBits
-read-written n rest fits =
+-- all its bytes read back
+first-read-written :
+    (start n : ℕ) (rest : List ℕ) → n < 2 ^ 64 → readFirst start (sevenBits n ++ rest) ≡ read.Number n (length (sevenBits n))
+unfolding readFirst sevenBits
+first-read-written start n rest fits =
     by-size n (λ low. rw (last-byte 9 n low, lt-ltb n 128 low))
     (λ high.
-    rw (next-byte 8 n high, le-ltb (128 + n % 128) 128 (omega arith), more-read-written 8 (n / 128) rest (omega arith) (omega arith))
+    rw (next-byte 8 n high, le-ltb (128 + n % 128) 128 (omega arith), more-read-written start 8 (n / 128) rest (omega arith) (omega arith))
     (below-written n (length (sevenBitsOf 8 (n / 128)))))
 
--- the bytes that a written number took, dropped, leave what stands after it
-pub rest-after-written : (n : ℕ) (rest : List ℕ) → drop (length (sevenBits n)) (sevenBits n ++ rest) ≡ rest
-rest-after-written n rest = drop-append-seam (sevenBits n) rest
+-- where a number stands written
+module _ (n start : ℕ) (bytes rest : List ℕ) (stands : drop start bytes ≡ sevenBits n ++ rest) where
+  -- reading gives it back
+  pub read-written : n < 2 ^ 64 → readNumber bytes start ≡ read.Number n (length (sevenBits n))
+  unfolding readNumber
+  read-written fits = rw stands (first-read-written start n rest fits)
+
+  -- after the bytes that it took stands what follows it
+  pub rest-after-written : drop (start + length (sevenBits n)) bytes ≡ rest
+  rest-after-written = sym (drop-drop (length (sevenBits n)) start bytes) ∙ rw stands (drop-append-seam (sevenBits n) rest)
 
 -- what is read lies below a limit, and took at least one and at most `most` of the bytes
 abbrev pub Within : ℕ → ℕ → List ℕ → NumberRead → Type 0
@@ -141,27 +149,35 @@ group-within byte limit above most rest (read.Number value used) low high room w
 group-within byte limit above most rest (read.Refused e) low high room within = tt
 
 -- what the bytes after the first say, `more` and one at most
-pub more-within : (more : ℕ) (bytes : List ℕ) → AllBytes bytes → Within (2 * 128 ^ more) (suc more) bytes (readMore more bytes)
+pub more-within :
+    (start more : ℕ) (bytes : List ℕ) → AllBytes bytes → Within (2 * 128 ^ more) (suc more) bytes (readMore start more bytes)
 unfolding readMore
-more-within more [] are = tt
-more-within zero (byte ∷ rest) are = either-read (Within 2 1 (byte ∷ rest)) (eqb byte 1) _ _ (omega arith) tt
-more-within (suc more) (byte ∷ rest) are =
+more-within start more [] are = tt
+more-within start zero (byte ∷ rest) are = either-read (Within 2 1 (byte ∷ rest)) (eqb byte 1) _ _ (omega arith) tt
+more-within start (suc more) (byte ∷ rest) are =
     by-size byte
     (λ low. rw (lt-ltb byte 128 low) (either-read (Within (2 * 128 ^ suc more) (suc (suc more)) (byte ∷ rest)) (eqb byte 0) _ _ tt (omega (arith, pow-suc 128 more, one-le-pow more 128 (omega arith)))))
-    (λ high. rw (le-ltb byte 128 high) (group-within byte (2 * 128 ^ more) (2 * 128 ^ suc more) (suc more) rest (readMore more rest) high (are 0 (omega arith)) (omega (arith, pow-suc 128 more)) (more-within more rest (λ i h. are (suc i) (omega arith)))))
+    (λ high. rw (le-ltb byte 128 high) (group-within byte (2 * 128 ^ more) (2 * 128 ^ suc more) (suc more) rest (readMore start more rest) high (are 0 (omega arith)) (omega (arith, pow-suc 128 more)) (more-within start more rest (λ i h. are (suc i) (omega arith)))))
 
--- what a part says
-number-within : (bytes : List ℕ) → AllBytes bytes → Within (2 ^ 64) 10 bytes (readNumber bytes)
-unfolding readNumber
-number-within [] are = tt
-number-within (byte ∷ rest) are =
+-- what all its bytes say
+first-within : (start : ℕ) (bytes : List ℕ) → AllBytes bytes → Within (2 ^ 64) 10 bytes (readFirst start bytes)
+unfolding readFirst
+first-within start [] are = tt
+first-within start (byte ∷ rest) are =
     by-size byte (λ low. rw (lt-ltb byte 128 low) (omega arith))
-    (λ high. rw (le-ltb byte 128 high) (group-within byte (2 ^ 57) (2 ^ 64) 9 rest (readMore 8 rest) high (are 0 (omega arith)) (omega arith) (more-within 8 rest (λ i h. are (suc i) (omega arith)))))
+    (λ high. rw (le-ltb byte 128 high) (group-within byte (2 ^ 57) (2 ^ 64) 9 rest (readMore start 8 rest) high (are 0 (omega arith)) (omega arith) (more-within start 8 rest (λ i h. are (suc i) (omega arith)))))
+
+-- the bytes from an offset on are bytes
+pub dropped-bytes : (n : ℕ) (bytes : List ℕ) → AllBytes bytes → AllBytes (drop n bytes)
+dropped-bytes n bytes are i h = rw (getD-drop n bytes i 0) (are (n + i) (omega (arith, length-drop n bytes)))
 
 -- a number that is read from bytes is below 2^64 and took one to ten of them
-pub read-bounds : (bytes : List ℕ) (value used : ℕ) → AllBytes bytes → readNumber bytes ≡ read.Number value used
-    → (value < 2 ^ 64) × (1 ≤ used) × (used ≤ 10) × (used ≤ length bytes)
-read-bounds bytes value used are e = subst (Within (2 ^ 64) 10 bytes) e (number-within bytes are)
+pub read-bounds : (bytes : List ℕ) (start value used : ℕ) → AllBytes bytes → readNumber bytes start ≡ read.Number value used
+    → (value < 2 ^ 64) × (1 ≤ used) × (used ≤ 10) × (start + used ≤ length bytes)
+unfolding readNumber
+read-bounds bytes start value used are e =
+    let within = subst (Within (2 ^ 64) 10 (drop start bytes)) e (first-within start (drop start bytes) (dropped-bytes start bytes are)) in
+    (within .0, within .1, within .2, omega (arith, within .1, within .3, length-drop start bytes))
 
 -- what is read is at least so much, and is written again, with `more` bytes after the first, as the bytes that it took
 abbrev Again : ℕ → ℕ → List ℕ → NumberRead → Type 0
@@ -181,43 +197,45 @@ group-again least byte more rest (read.Number value used) few low high again =
 group-again least byte more rest (read.Refused e) few low high again = tt
 
 -- the bytes after the first stand for a number above 0, and are written again
-more-again : (more : ℕ) (bytes : List ℕ) → AllBytes bytes → Again 1 more bytes (readMore more bytes)
+more-again : (start more : ℕ) (bytes : List ℕ) → AllBytes bytes → Again 1 more bytes (readMore start more bytes)
 unfolding readMore
-more-again more [] are = tt
-more-again zero (byte ∷ rest) are = go (eqb byte 1) refl
+more-again start more [] are = tt
+more-again start zero (byte ∷ rest) are = go (eqb byte 1) refl
   where
     go :
         (one : Bool) → eqb byte 1 ≡ one
-        → Again 1 zero (byte ∷ rest) (cond one (read.Number 1 1) (read.Refused BadState))
+        → Again 1 zero (byte ∷ rest) (cond one (read.Number 1 1) (read.Refused (BadState start)))
     go true e = (omega arith, rw (eqb-true byte 1 e) (last-byte zero 1 (omega arith)))
     go false e = tt
-more-again (suc more) (byte ∷ rest) are =
+more-again start (suc more) (byte ∷ rest) are =
     by-size byte (λ low. rw (lt-ltb byte 128 low) (go low (eqb byte 0) refl))
     (λ high.
-    let after = more-again more rest (λ i h. are (suc i) (omega arith)) in
+    let after = more-again start more rest (λ i h. are (suc i) (omega arith)) in
     rw (le-ltb byte 128 high)
-    (group-again 1 byte more rest (readMore more rest) (omega arith) high (are 0 (omega arith)) after))
+    (group-again 1 byte more rest (readMore start more rest) (omega arith) high (are 0 (omega arith)) after))
   where
     go :
         byte < 128 → (none : Bool) → eqb byte 0 ≡ none
-        → Again 1 (suc more) (byte ∷ rest) (cond none (read.Refused BadState) (read.Number byte 1))
+        → Again 1 (suc more) (byte ∷ rest) (cond none (read.Refused (BadState start)) (read.Number byte 1))
     go low true e = tt
     go low false e = (omega (arith, eqb-false byte 0 e), last-byte (suc more) byte low)
 
--- the bytes of what a part says are written again
-number-again : (bytes : List ℕ) → AllBytes bytes → Again 0 9 bytes (readNumber bytes)
-unfolding readNumber
-number-again [] are = tt
-number-again (byte ∷ rest) are =
+-- all the bytes of what is read are written again
+first-again : (start : ℕ) (bytes : List ℕ) → AllBytes bytes → Again 0 9 bytes (readFirst start bytes)
+unfolding readFirst
+first-again start [] are = tt
+first-again start (byte ∷ rest) are =
     by-size byte (λ low. rw (lt-ltb byte 128 low) (omega arith, last-byte 9 byte low))
     (λ high.
-    let after = more-again 8 rest (λ i h. are (suc i) (omega arith)) in
+    let after = more-again start 8 rest (λ i h. are (suc i) (omega arith)) in
     rw (le-ltb byte 128 high)
-    (group-again 0 byte 8 rest (readMore 8 rest) (omega arith) high (are 0 (omega arith)) after))
+    (group-again 0 byte 8 rest (readMore start 8 rest) (omega arith) high (are 0 (omega arith)) after))
 
--- a number that is read from bytes is written back as those that it took
+-- a number that is read from bytes is written back where it stood, before what follows it
 pub read-written-back :
-    (bytes : List ℕ) (value used : ℕ) → AllBytes bytes → readNumber bytes ≡ read.Number value used
-    → sevenBits value ≡ take used bytes
-unfolding sevenBits
-read-written-back bytes value used are e = subst (Again 0 9 bytes) e (number-again bytes are) .1
+    (bytes : List ℕ) (start value used : ℕ) → AllBytes bytes → readNumber bytes start ≡ read.Number value used
+    → sevenBits value ++ drop (start + used) bytes ≡ drop start bytes
+unfolding sevenBits readNumber
+read-written-back bytes start value used are e =
+    let again = subst (Again 0 9 (drop start bytes)) e (first-again start (drop start bytes) (dropped-bytes start bytes are)) in
+    rw (again .1, ← drop-drop used start bytes) (take-append-drop used (drop start bytes))

@@ -1,74 +1,82 @@
--- What the proofs of `read` and `read_more` share: reading, in terms of a slice's length, first byte and rest; and
--- what `group_below` requires.
-use Prim.Native.Nat.{ℕ, zero, suc, _-_, _*_, _^_, _≤_}
-use mathlib.Core.Path.{_≡_, refl}
+-- What the proofs of `read` and `read_more` share: reading, in terms of a slice's length, the byte at an offset and the
+-- rest; and what `group_below` requires.
+use Prim.Native.Nat.{ℕ, zero, suc, _+_, _-_, _*_, _^_, _≤_, _<_}
+use mathlib.Core.Path.{_≡_, refl, _∙_}
 use mathlib.Core.Bool.{cond}
 use mathlib.Core.List.{List, [], _∷_}
 use native.Mathlib.Nat.{pow-le-pow-right}
+use native.Mathlib.Numerals.{add-one}
 use native.Mathlib.Omega.{arith}
 use lib.Dec.{ltb, eqb}
-use lib.ListN.{length, getD, take, drop}
-use lib.Seq.{take-all}
+use lib.ListN.{length, getD, take, drop, length-drop, drop-of-length-le}
+use lib.Seq.{take-all, drop-cons}
 use Rattle.pixel.specs.Bytes.{AllBytes}
 use Rattle.pixel.specs.declared.error.Error.the-variants.{UnexpectedBufferEnd, BadState}
 use Rattle.number.specs.declared.NumberRead.{NumberRead}
 use Rattle.number.specs.declared.NumberRead.the-variants as read
 use Rattle.number.specs.Asked.{GroupFits}
-use Rattle.number.specs.Seven.{readNumber, readMore, groupBelow}
-use Rattle.number.proofs.Laws.{Within, more-within}
+use Rattle.number.specs.Seven.{readNumber, readFirst, readMore, groupBelow}
+use Rattle.number.proofs.Laws.{Within, more-within, dropped-bytes}
 
--- the first byte of a slice, and `&bytes[1..]`
-abbrev pub first : List ℕ → ℕ
-first bytes = getD bytes 0 0
+-- the byte at an offset of a slice, and `&bytes[start + 1..]`
+abbrev pub byteAt : List ℕ → ℕ → ℕ
+byteAt bytes start = getD bytes start 0
 
-abbrev pub rest : List ℕ → List ℕ
-rest bytes = take (length bytes - 1) (drop 1 bytes)
+abbrev pub after : List ℕ → ℕ → List ℕ
+after bytes start = take (length bytes - (start + 1)) (drop (start + 1) bytes)
 
-rest-is : (byte : ℕ) (bytes : List ℕ) → rest (byte ∷ bytes) ≡ bytes
-rest-is byte bytes = take-all (suc (length bytes) - 1) bytes (omega arith)
+-- what stands from an offset on is the byte there and those after it
+from-there : (bytes : List ℕ) (start : ℕ) → start < length bytes → drop start bytes ≡ byteAt bytes start ∷ after bytes start
+from-there bytes start inside =
+    let all = take-all (length bytes - (start + 1)) (drop (start + 1) bytes) (omega (arith, length-drop (start + 1) bytes)) in
+    drop-cons bytes start 0 inside ∙ rw (all, add-one start)
 
-pub number-empty : (bytes : List ℕ) → length bytes ≡ 0 → readNumber bytes ≡ read.Refused UnexpectedBufferEnd
-unfolding readNumber
-number-empty [] none = refl
-number-empty (byte ∷ bytes) none = absurd (omega arith)
+pub number-empty : (bytes : List ℕ) (start : ℕ) → length bytes ≤ start → readNumber bytes start ≡ read.Refused (UnexpectedBufferEnd start)
+unfolding readNumber readFirst
+number-empty bytes start none = rw (drop-of-length-le bytes none)
 
-pub number-first : (bytes : List ℕ) → (length bytes ≡ 0 → ⊥)
-    → readNumber bytes ≡ cond (ltb (first bytes) 128) (read.Number (first bytes) 1) (groupBelow (first bytes) (readMore 8 (rest bytes)))
-unfolding readNumber
-number-first [] some = absurd (some refl)
-number-first (byte ∷ bytes) some = rw (rest-is byte bytes)
+pub number-first : (bytes : List ℕ) (start : ℕ) → start < length bytes
+    → readNumber bytes start
+    ≡ cond (ltb (byteAt bytes start) 128) (read.Number (byteAt bytes start) 1)
+    (groupBelow (byteAt bytes start) (readMore start 8 (after bytes start)))
+unfolding readNumber readFirst
+number-first bytes start inside = rw (from-there bytes start inside)
 
-pub more-empty : (more : ℕ) (bytes : List ℕ) → length bytes ≡ 0 → readMore more bytes ≡ read.Refused UnexpectedBufferEnd
+pub more-empty :
+    (start more : ℕ) (bytes : List ℕ) → length bytes ≡ 0 → readMore start more bytes ≡ read.Refused (UnexpectedBufferEnd start)
 unfolding readMore
-more-empty more [] none = refl
-more-empty more (byte ∷ bytes) none = absurd (omega arith)
+more-empty start more [] none = refl
+more-empty start more (byte ∷ bytes) none = absurd (omega arith)
 
-pub more-last : (more : ℕ) (bytes : List ℕ) → more ≡ 0 → (length bytes ≡ 0 → ⊥)
-    → readMore more bytes ≡ cond (eqb (first bytes) 1) (read.Number 1 1) (read.Refused BadState)
+pub more-last : (start more : ℕ) (bytes : List ℕ) → more ≡ 0 → (length bytes ≡ 0 → ⊥)
+    → readMore start more bytes ≡ cond (eqb (byteAt bytes 0) 1) (read.Number 1 1) (read.Refused (BadState start))
 unfolding readMore
-more-last more [] last some = absurd (some refl)
-more-last zero (byte ∷ bytes) last some = refl
-more-last (suc more) (byte ∷ bytes) last some = absurd (omega arith)
+more-last start more [] last some = absurd (some refl)
+more-last start zero (byte ∷ bytes) last some = refl
+more-last start (suc more) (byte ∷ bytes) last some = absurd (omega arith)
 
-pub more-first : (more : ℕ) (bytes : List ℕ) → (more ≡ 0 → ⊥) → (length bytes ≡ 0 → ⊥)
-    → readMore more bytes
-    ≡ cond (ltb (first bytes) 128) (cond (eqb (first bytes) 0) (read.Refused BadState) (read.Number (first bytes) 1))
-    (groupBelow (first bytes) (readMore (more - 1) (rest bytes)))
+pub more-first : (start more : ℕ) (bytes : List ℕ) → (more ≡ 0 → ⊥) → (length bytes ≡ 0 → ⊥)
+    → readMore start more bytes
+    ≡ cond (ltb (byteAt bytes 0) 128) (cond (eqb (byteAt bytes 0) 0) (read.Refused (BadState start)) (read.Number (byteAt bytes 0) 1))
+    (groupBelow (byteAt bytes 0) (readMore start (more - 1) (after bytes 0)))
 unfolding readMore
-more-first more [] follow some = absurd (some refl)
-more-first zero (byte ∷ bytes) follow some = absurd (follow refl)
-more-first (suc more) (byte ∷ bytes) follow some =
+more-first start more [] follow some = absurd (some refl)
+more-first start zero (byte ∷ bytes) follow some = absurd (follow refl)
+more-first start (suc more) (byte ∷ bytes) follow some =
     let fewer : suc more - 1 ≡ more = omega arith in
-    rw (rest-is byte bytes, fewer)
+    let all : after (byte ∷ bytes) 0 ≡ bytes = take-all (suc (length bytes) - 1) bytes (omega arith) in
+    rw (all, fewer)
 
-fits-of : (byte more : ℕ) (bytes : List ℕ) (after : NumberRead) → 128 ≤ byte → more ≤ 8
-    → Within (2 * 128 ^ more) (suc more) bytes after → GroupFits byte after
+fits-of : (byte more : ℕ) (bytes : List ℕ) (rest : NumberRead) → 128 ≤ byte → more ≤ 8
+    → Within (2 * 128 ^ more) (suc more) bytes rest → GroupFits byte rest
 fits-of byte more bytes (read.Number value used) high le within = omega (arith, pow-le-pow-right {n = 128} (omega arith) le)
 fits-of byte more bytes (read.Refused e) high le within = tt
 
 -- a group can stand below what `read_more` answers of the bytes after it
-pub group-fits : (more : ℕ) (bytes : List ℕ) → 128 ≤ first bytes → more ≤ 8 → AllBytes bytes → GroupFits (first bytes) (readMore more (rest bytes))
-group-fits more [] high le are = absurd (omega arith)
-group-fits more (byte ∷ bytes) high le are =
-    rw (rest-is byte bytes)
-    (fits-of byte more bytes (readMore more bytes) high le (more-within more bytes (λ i h. are (suc i) (omega arith))))
+pub group-fits :
+    (start more : ℕ) (bytes : List ℕ) (at : ℕ) → at < length bytes → 128 ≤ byteAt bytes at → more ≤ 8 → AllBytes bytes
+    → GroupFits (byteAt bytes at) (readMore start more (after bytes at))
+group-fits start more bytes at inside high le are =
+    let all : after bytes at ≡ drop (at + 1) bytes = take-all (length bytes - (at + 1)) (drop (at + 1) bytes) (omega (arith, length-drop (at + 1) bytes)) in
+    rw all
+    (fits-of (byteAt bytes at) more (drop (at + 1) bytes) (readMore start more (drop (at + 1) bytes)) high le (more-within start more (drop (at + 1) bytes) (dropped-bytes (at + 1) bytes are)))

@@ -26,18 +26,22 @@ groupBelow byte (read.Number value used) = read.Number (byte - 128 + 128 * value
 groupBelow byte (read.Refused e) = read.Refused e
 
 -- the bytes after the first, `more` and one at most: cut short is 1; a last byte 00 is not shortest, 9; a tenth byte
--- other than 01 is 9
-unfoldable pub readMore : ℕ → List ℕ → NumberRead
-readMore more [] = read.Refused UnexpectedBufferEnd
-readMore zero (byte ∷ rest) = cond (eqb byte 1) (read.Number 1 1) (read.Refused BadState)
-readMore (suc more) (byte ∷ rest) =
-    cond (ltb byte 128) (cond (eqb byte 0) (read.Refused BadState) (read.Number byte 1))
-    (groupBelow byte (readMore more rest))
+-- other than 01 is 9. Whichever byte fails, the refusal carries the offset at which the number starts
+unfoldable pub readMore : ℕ → ℕ → List ℕ → NumberRead
+readMore start more [] = read.Refused (UnexpectedBufferEnd start)
+readMore start zero (byte ∷ rest) = cond (eqb byte 1) (read.Number 1 1) (read.Refused (BadState start))
+readMore start (suc more) (byte ∷ rest) =
+    cond (ltb byte 128) (cond (eqb byte 0) (read.Refused (BadState start)) (read.Number byte 1))
+    (groupBelow byte (readMore start more rest))
 
--- the number that a part starts with, and how many bytes it took; only a number of one byte may be 00
-unfoldable pub readNumber : List ℕ → NumberRead
-readNumber [] = read.Refused UnexpectedBufferEnd
-readNumber (byte ∷ rest) = cond (ltb byte 128) (read.Number byte 1) (groupBelow byte (readMore 8 rest))
+-- all its bytes; only a number of one byte may be 00
+unfoldable pub readFirst : ℕ → List ℕ → NumberRead
+readFirst start [] = read.Refused (UnexpectedBufferEnd start)
+readFirst start (byte ∷ rest) = cond (ltb byte 128) (read.Number byte 1) (groupBelow byte (readMore start 8 rest))
+
+-- the number that starts at an offset of a part, and how many bytes it took
+unfoldable pub readNumber : List ℕ → ℕ → NumberRead
+readNumber bytes start = readFirst start (drop start bytes)
 
 -- writing into a part: 7 with the number's length where there is no room
 unfoldable pub writingNumber : ℕ → List ℕ → NumberWritten

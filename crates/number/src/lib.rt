@@ -17,48 +17,49 @@ pub enum NumberWritten {
     Refused(Error),
 }
 
-// The number that a part starts with.
-pub fn read(bytes: &[u8]) -> NumberRead
-    ensures { λ r. ⌜ r ≡ readNumber (now (bytes .entry)) ⌝ }
+// The number that starts at an offset of a part. A refusal carries that offset, whichever byte fails.
+pub fn read(bytes: &[u8], start: usize) -> NumberRead
+    ensures { λ r. ⌜ r ≡ readNumber (now (bytes .entry)) start ⌝ }
 {
-    if bytes.len() == 0 {
-        return NumberRead::Refused(Error::UnexpectedBufferEnd);
+    if bytes.len() <= start {
+        return NumberRead::Refused(Error::UnexpectedBufferEnd { at: start });
     }
-    let byte = bytes[0];
+    let byte = bytes[start];
     if byte < 128 {
         return NumberRead::Number {
             value: byte as u64,
             used: 1,
         };
     }
-    group_below(byte, read_more(8, &bytes[1..]))
+    group_below(byte, read_more(start, 8, &bytes[start + 1..]))
 }
 
-// What a part says where a group with the top bit set stands before it, and `more` and one bytes may follow.
-fn read_more(more: usize, bytes: &[u8]) -> NumberRead
+// What a part says where a group with the top bit set stands before it, and `more` and one bytes may follow; the number
+// starts at `start`.
+fn read_more(start: usize, more: usize, bytes: &[u8]) -> NumberRead
     requires { ⌜ more ≤ 8 ⌝ }
-    ensures { λ r. ⌜ r ≡ readMore more (now (bytes .entry)) ⌝ }
+    ensures { λ r. ⌜ r ≡ readMore start more (now (bytes .entry)) ⌝ }
 {
     if bytes.len() == 0 {
-        return NumberRead::Refused(Error::UnexpectedBufferEnd);
+        return NumberRead::Refused(Error::UnexpectedBufferEnd { at: start });
     }
     let byte = bytes[0];
     if more == 0 {
         if byte == 1 {
             return NumberRead::Number { value: 1, used: 1 };
         }
-        return NumberRead::Refused(Error::BadState);
+        return NumberRead::Refused(Error::BadState { at: start });
     }
     if byte < 128 {
         if byte == 0 {
-            return NumberRead::Refused(Error::BadState);
+            return NumberRead::Refused(Error::BadState { at: start });
         }
         return NumberRead::Number {
             value: byte as u64,
             used: 1,
         };
     }
-    group_below(byte, read_more(more - 1, &bytes[1..]))
+    group_below(byte, read_more(start, more - 1, &bytes[1..]))
 }
 
 // A group with the top bit set before what the bytes after it say.

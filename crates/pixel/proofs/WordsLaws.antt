@@ -69,7 +69,7 @@ pub words-short : (number : ℕ) (figures : List ℕ) → length (wordsOf number
 unfolding sentence
 words-short number figures =
     said-fits (sentence number (getD figures 0 0) (getD figures 1 0) (getD figures 2 0))
-    (either-fits (eqb number 1) _ _ (lit≤ tt)
+    (either-fits (eqb number 1) _ _ (either-fits (eqb (getD figures 0 0) 0) _ _ (lit≤ tt) (lit≤ tt))
     (either-fits (eqb number 2) _ _ (lit≤ tt)
     (either-fits (eqb number 3) _ _ (lit≤ tt)
     (either-fits (eqb number 4) _ _ (lit≤ tt)
@@ -77,7 +77,7 @@ words-short number figures =
     (either-fits (eqb number 6) _ _ (lit≤ tt)
     (either-fits (eqb number 7) _ _ (lit≤ tt)
     (either-fits (eqb number 8) _ _ (lit≤ tt)
-    (either-fits (eqb number 9) _ _ (lit≤ tt)
+    (either-fits (eqb number 9) _ _ (either-fits (eqb (getD figures 0 0) 0) _ _ (lit≤ tt) (lit≤ tt))
     (either-fits (eqb number 10) _ _ (lit≤ tt)
     (either-fits (eqb number 11) _ _ (lit≤ tt)
     (either-fits (eqb number 12) _ _ (lit≤ tt)

@@ -1,5 +1,5 @@
 -- Document 01's table of refusals, and those of document 02's Q-7 and Q-13: each one's number and figures, which
--- determine it.
+-- determine it. 1 and 9 have the offset of Q-9, which is 0 wherever no record is read.
 use mathlib.Core.Path.{_≡_, refl, sym, _∙_, ap₂}
 use mathlib.Core.List.{List, [], _∷_}
 use mathlib.Core.Bool.{cond}
@@ -9,9 +9,17 @@ use lib.ListN.{getD}
 use Rattle.pixel.specs.declared.error.Error.{Error}
 use Rattle.pixel.specs.declared.error.Error.the-variants.{UnexpectedBufferEnd, InvalidChannels, InvalidColorSpace, InvalidMagic, InvalidImageDimensions, InvalidImageLength, OutputBufferTooSmall, InvalidPadding, BadState, RunPastImage, BytesAfterMarker, OtherMessage, InvalidHour, InvalidCellCount, TotalTooLarge}
 
+-- 1 of anything but a record: no offset
+abbrev pub endedEarly : Error
+endedEarly = UnexpectedBufferEnd 0
+
+-- 9 of a state: no offset
+abbrev pub badState : Error
+badState = BadState 0
+
 -- the number that the documents give it
 abbrev pub numberOf : Error → ℕ
-numberOf UnexpectedBufferEnd = 1
+numberOf (UnexpectedBufferEnd offset) = 1
 numberOf (InvalidChannels channels) = 2
 numberOf (InvalidColorSpace byte) = 3
 numberOf (InvalidMagic magic) = 4
@@ -19,7 +27,7 @@ numberOf (InvalidImageDimensions width height) = 5
 numberOf (InvalidImageLength size width height) = 6
 numberOf (OutputBufferTooSmall size required) = 7
 numberOf InvalidPadding = 8
-numberOf BadState = 9
+numberOf (BadState offset) = 9
 numberOf RunPastImage = 10
 numberOf BytesAfterMarker = 11
 numberOf (OtherMessage number) = 12
@@ -29,7 +37,7 @@ numberOf (TotalTooLarge cell) = 21
 
 -- the figures in the documents' order, zeros after them
 abbrev pub figuresOf : Error → List ℕ
-figuresOf UnexpectedBufferEnd = 0 ∷ 0 ∷ 0 ∷ 0 ∷ []
+figuresOf (UnexpectedBufferEnd offset) = offset ∷ 0 ∷ 0 ∷ 0 ∷ []
 figuresOf (InvalidChannels channels) = channels ∷ 0 ∷ 0 ∷ 0 ∷ []
 figuresOf (InvalidColorSpace byte) = byte ∷ 0 ∷ 0 ∷ 0 ∷ []
 figuresOf (InvalidMagic magic) = magic ∷ 0 ∷ 0 ∷ 0 ∷ []
@@ -37,7 +45,7 @@ figuresOf (InvalidImageDimensions width height) = width ∷ height ∷ 0 ∷ 0 �
 figuresOf (InvalidImageLength size width height) = size ∷ width ∷ height ∷ 0 ∷ []
 figuresOf (OutputBufferTooSmall size required) = size ∷ required ∷ 0 ∷ 0 ∷ []
 figuresOf InvalidPadding = 0 ∷ 0 ∷ 0 ∷ 0 ∷ []
-figuresOf BadState = 0 ∷ 0 ∷ 0 ∷ 0 ∷ []
+figuresOf (BadState offset) = offset ∷ 0 ∷ 0 ∷ 0 ∷ []
 figuresOf RunPastImage = 0 ∷ 0 ∷ 0 ∷ 0 ∷ []
 figuresOf BytesAfterMarker = 0 ∷ 0 ∷ 0 ∷ 0 ∷ []
 figuresOf (OtherMessage number) = number ∷ 0 ∷ 0 ∷ 0 ∷ []
@@ -55,17 +63,17 @@ refusalOf n f =
     (cond (eqb n 6) (InvalidImageLength (getD f 0 0) (getD f 1 0) (getD f 2 0))
     (cond (eqb n 7) (OutputBufferTooSmall (getD f 0 0) (getD f 1 0))
     (cond (eqb n 8) InvalidPadding
-    (cond (eqb n 9) BadState
+    (cond (eqb n 9) (BadState (getD f 0 0))
     (cond (eqb n 10) RunPastImage
     (cond (eqb n 11) BytesAfterMarker
     (cond (eqb n 12) (OtherMessage (getD f 0 0))
     (cond (eqb n 19) (InvalidHour (getD f 0 0))
     (cond (eqb n 20) (InvalidCellCount (getD f 0 0) (getD f 1 0))
-    (cond (eqb n 21) (TotalTooLarge (getD f 0 0)) UnexpectedBufferEnd)))))))))))))
+    (cond (eqb n 21) (TotalTooLarge (getD f 0 0)) (UnexpectedBufferEnd (getD f 0 0)))))))))))))))
 
 -- a refusal is the one that its number and figures name
 named : (e : Error) → refusalOf (numberOf e) (figuresOf e) ≡ e
-named UnexpectedBufferEnd = refl
+named (UnexpectedBufferEnd offset) = refl
 named (InvalidChannels channels) = refl
 named (InvalidColorSpace byte) = refl
 named (InvalidMagic magic) = refl
@@ -73,7 +81,7 @@ named (InvalidImageDimensions width height) = refl
 named (InvalidImageLength size width height) = refl
 named (OutputBufferTooSmall size required) = refl
 named InvalidPadding = refl
-named BadState = refl
+named (BadState offset) = refl
 named RunPastImage = refl
 named BytesAfterMarker = refl
 named (OtherMessage number) = refl

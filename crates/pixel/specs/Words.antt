@@ -1,5 +1,5 @@
 -- A refusal in words: the Rust's own for the eight that it has, and in the same style for 9 to 12, 19 to 21 and for a
--- number that is no refusal.
+-- number that is no refusal. 1 and 9 with an offset are those of a record.
 use mathlib.Core.Bool.{cond}
 use mathlib.Core.List.{List, [], _∷_}
 use Prim.Native.Nat.{ℕ, _/_, _%_}
@@ -19,10 +19,21 @@ magicParts magic =
     ∷ figure ", " (magic % 256)
     ∷ say "]" ∷ []
 
+-- input that ended early: a record's has an offset
+abbrev pub endParts : ℕ → List Part
+endParts offset =
+    cond (eqb offset 0) (say "unexpected input buffer end while decoding" ∷ [])
+    (figure "record is bad at byte " offset ∷ say " (unexpected end)" ∷ [])
+
+-- a bad record has an offset, a bad state none
+abbrev pub badParts : ℕ → List Part
+badParts offset =
+    cond (eqb offset 0) (say "invalid decoder state" ∷ []) (figure "record is bad at byte " offset ∷ [])
+
 -- what is said of a number and its figures a, b and c
 unfoldable pub sentence : ℕ → ℕ → ℕ → ℕ → List Part
 sentence number a b c =
-    cond (eqb number 1) (say "unexpected input buffer end while decoding" ∷ [])
+    cond (eqb number 1) (endParts a)
     (cond (eqb number 2) (figure "invalid number of channels: " a ∷ [])
     (cond (eqb number 3) (figure "invalid color space: " a ∷ say " (expected 0 or 1)" ∷ [])
     (cond (eqb number 4) (magicParts a)
@@ -30,7 +41,7 @@ sentence number a b c =
     (cond (eqb number 6) (figure "invalid image length: " a ∷ figure " bytes for " b ∷ figure "x" c ∷ [])
     (cond (eqb number 7) (figure "output buffer size too small: " a ∷ figure " (required: " b ∷ say ")" ∷ [])
     (cond (eqb number 8) (say "invalid padding (stream end marker mismatch)" ∷ [])
-    (cond (eqb number 9) (say "invalid decoder state or record" ∷ [])
+    (cond (eqb number 9) (badParts a)
     (cond (eqb number 10) (say "invalid run (longer than the pixels left)" ∷ [])
     (cond (eqb number 11) (say "invalid length (bytes after the stream end marker)" ∷ [])
     (cond (eqb number 12) (figure "record of another message: " a ∷ [])

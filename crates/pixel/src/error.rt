@@ -11,8 +11,10 @@ use text::Text;
 pub type FourFigures = [u64; 4];
 
 pub enum Error {
-    // Input ended before what was to be read.
-    UnexpectedBufferEnd,
+    // Input ended before what was to be read; in a record, within the field at this offset. Elsewhere it is 0.
+    UnexpectedBufferEnd {
+        at: usize,
+    },
     // Neither 3 nor 4 channels; 255 stands for any larger number.
     InvalidChannels {
         channels: u8,
@@ -43,8 +45,10 @@ pub enum Error {
     },
     // What follows the last pixel is not the marker.
     InvalidPadding,
-    // A state that is not well formed, or a record that no state writes.
-    BadState,
+    // A record that no state writes, with a fault in the field at this offset; or a state that is not well formed: 0.
+    BadState {
+        at: usize,
+    },
     // A run is longer than the pixels left (strict).
     RunPastImage,
     // Something follows the marker (strict).
@@ -74,7 +78,7 @@ impl Error {
         ensures { λ r. ⌜ r ≡ numberOf self ⌝ }
     {
         match self {
-            Error::UnexpectedBufferEnd => 1,
+            Error::UnexpectedBufferEnd { at: _ } => 1,
             Error::InvalidChannels { channels: _ } => 2,
             Error::InvalidColorSpace { colorspace: _ } => 3,
             Error::InvalidMagic { magic: _ } => 4,
@@ -92,7 +96,7 @@ impl Error {
                 required: _,
             } => 7,
             Error::InvalidPadding => 8,
-            Error::BadState => 9,
+            Error::BadState { at: _ } => 9,
             Error::RunPastImage => 10,
             Error::BytesAfterMarker => 11,
             Error::OtherMessage { number: _ } => 12,
@@ -110,7 +114,7 @@ impl Error {
         ensures { λ r. ⌜ r ≡ figuresOf self ⌝ }
     {
         match self {
-            Error::UnexpectedBufferEnd => [0, 0, 0, 0],
+            Error::UnexpectedBufferEnd { at } => [at as u64, 0, 0, 0],
             Error::InvalidChannels { channels } => [channels as u64, 0, 0, 0],
             Error::InvalidColorSpace { colorspace } => [colorspace as u64, 0, 0, 0],
             Error::InvalidMagic { magic } => [magic as u64, 0, 0, 0],
@@ -122,7 +126,7 @@ impl Error {
             } => [size as u64, width as u64, height as u64, 0],
             Error::OutputBufferTooSmall { size, required } => [size as u64, required as u64, 0, 0],
             Error::InvalidPadding => [0, 0, 0, 0],
-            Error::BadState => [0, 0, 0, 0],
+            Error::BadState { at } => [at as u64, 0, 0, 0],
             Error::RunPastImage => [0, 0, 0, 0],
             Error::BytesAfterMarker => [0, 0, 0, 0],
             Error::OtherMessage { number } => [number, 0, 0, 0],

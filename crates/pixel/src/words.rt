@@ -1,7 +1,7 @@
 // A refusal in words.
 ghost use mathlib.Core.Path.{_≡_};
 ghost use Rattle.text.specs.Text.{textOf, said};
-ghost use Rattle.pixel.specs.Words.{sentence, magicParts};
+ghost use Rattle.pixel.specs.Words.{sentence, endParts, badParts, magicParts};
 use text::Text;
 
 // What is said of a number and its figures.
@@ -10,7 +10,7 @@ pub fn of(number: u64, a: u64, b: u64, c: u64) -> Text
 {
     let text = Text::empty();
     if number == 1 {
-        return text.words(b"unexpected input buffer end while decoding");
+        return end(a);
     }
     if number == 2 {
         return text.figure(b"invalid number of channels: ", a);
@@ -40,7 +40,7 @@ pub fn of(number: u64, a: u64, b: u64, c: u64) -> Text
         return text.words(b"invalid padding (stream end marker mismatch)");
     }
     if number == 9 {
-        return text.words(b"invalid decoder state or record");
+        return bad(a);
     }
     if number == 10 {
         return text.words(b"invalid run (longer than the pixels left)");
@@ -65,6 +65,29 @@ pub fn of(number: u64, a: u64, b: u64, c: u64) -> Text
             .words(b" would pass 18446744073709551615");
     }
     text.figure(b"unknown refusal: ", number)
+}
+
+// The sentence of an end that comes early, in a record at an offset.
+fn end(offset: u64) -> Text
+    ensures { λ r. ⌜ textOf r ≡ said (endParts offset) ⌝ }
+{
+    let text = Text::empty();
+    if offset == 0 {
+        return text.words(b"unexpected input buffer end while decoding");
+    }
+    text.figure(b"record is bad at byte ", offset)
+        .words(b" (unexpected end)")
+}
+
+// The sentence of a bad state or, with an offset, of a bad record.
+fn bad(offset: u64) -> Text
+    ensures { λ r. ⌜ textOf r ≡ said (badParts offset) ⌝ }
+{
+    let text = Text::empty();
+    if offset == 0 {
+        return text.words(b"invalid decoder state");
+    }
+    text.figure(b"record is bad at byte ", offset)
 }
 
 // The sentence of a wrong magic: the four bytes that stood there, the first one first.

@@ -58,7 +58,7 @@ refused-start m number w room e is = heading (headerOf m) is
 
 -- a refusal's number is neither 0 nor 256
 pub number-small : (e : Error) → (1 ≤ numberOf e) × (numberOf e ≤ 21)
-number-small UnexpectedBufferEnd = (omega arith, omega arith)
+number-small (UnexpectedBufferEnd offset) = (omega arith, omega arith)
 number-small (InvalidChannels channels) = (omega arith, omega arith)
 number-small (InvalidColorSpace byte) = (omega arith, omega arith)
 number-small (InvalidMagic magic) = (omega arith, omega arith)
@@ -66,7 +66,7 @@ number-small (InvalidImageDimensions width height) = (omega arith, omega arith)
 number-small (InvalidImageLength size width height) = (omega arith, omega arith)
 number-small (OutputBufferTooSmall size required) = (omega arith, omega arith)
 number-small InvalidPadding = (omega arith, omega arith)
-number-small BadState = (omega arith, omega arith)
+number-small (BadState offset) = (omega arith, omega arith)
 number-small RunPastImage = (omega arith, omega arith)
 number-small BytesAfterMarker = (omega arith, omega arith)
 number-small (OtherMessage number) = (omega arith, omega arith)

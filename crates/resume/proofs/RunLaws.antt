@@ -12,7 +12,8 @@ use borrow.Rule.Slice.PartMut.{putMid, post-is}
 use lib.Dec.{T, ltb, leb, leb→le}
 use lib.ListN.{length, take, drop, length-drop, take-append-drop, drop-of-length-le}
 use lib.Seq.{drop-length, length-take-le, take-append-add, drop-append-add}
-use Rattle.pixel.specs.declared.error.Error.the-variants.{UnexpectedBufferEnd, BadState, OutputBufferTooSmall}
+use Rattle.pixel.specs.declared.error.Error.the-variants.{OutputBufferTooSmall}
+use Rattle.pixel.specs.Refusal.{endedEarly, badState}
 use Rattle.pixel.specs.declared.types.Channels.{Channels}
 use Rattle.pixel.specs.Types.{channelsNumber}
 use Rattle.header.specs.declared.Header.{Header}
@@ -54,7 +55,7 @@ stood header wanted m (suc n) s out = ended (closing (sizeWanted header wanted) 
 -- the run that a walk is
 abbrev pub ranWalk : Header → ℕ → ℕ → List ℕ → Walk → Ran
 ranWalk header number wanted m w =
-    cond (w .cut) (ended (refused UnexpectedBufferEnd) (stateAt header number wanted (w .place)) (w .out))
+    cond (w .cut) (ended (refused endedEarly) (stateAt header number wanted (w .place)) (w .out))
     (stood header wanted m (w .spare) (stateAt header number wanted (w .place)) (w .out))
 
 -- a well-formed state's pixel is not past the picture
@@ -82,11 +83,11 @@ put-rest out part at within =
 -- with no byte left a move is refusal 1
 past-move :
     (header : Header) (wanted : ℕ) (m : List ℕ) (place : Place) → drop (place .at) m ≡ []
-    → move decoder header wanted m place ≡ Move.end (refused UnexpectedBufferEnd)
+    → move decoder header wanted m place ≡ Move.end (refused endedEarly)
 unfolding move moveBy closing
 past-move header wanted m place nothing = rw (nothing, no-row _ [] refl) (go (ltb (place .pixel) (pixelCount header)))
   where
-    go : (b : Bool) → cond b (Move.end (refused UnexpectedBufferEnd)) (Move.end (refused UnexpectedBufferEnd)) ≡ Move.end (refused UnexpectedBufferEnd)
+    go : (b : Bool) → cond b (Move.end (refused endedEarly)) (Move.end (refused endedEarly)) ≡ Move.end (refused endedEarly)
     go true = refl
     go false = refl
 
@@ -118,7 +119,7 @@ module _ (m : List ℕ) where
       unfolding running walking stepBy move moveBy
       walks-cut n found =
           rw (steps-by, lt-ltb (s .place .pixel) (pixelCount (s .header)) missing, found)
-          (ap (λ (t : State). ended (refused UnexpectedBufferEnd) t out) (at-place s (sets .well)))
+          (ap (λ (t : State). ended (refused endedEarly) t out) (at-place s (sets .well)))
 
       module _ (k : Chunk) (found : chunkAt (decoderReadsRgba (channelsNumber (s .header .channels))) (drop (s .place .at) m) ≡ chunk k) where
         sound : Sound (drop (s .place .at) m) k
@@ -331,7 +332,7 @@ run-one m s out = go (step s m (length out))
 -- a state that is not well formed is 9
 pub run-bad :
     (m : List ℕ) (n : ℕ) (s : State) (out : List ℕ) → (n ≡ 0 → ⊥) → wellFormed s ≡ false
-    → ended (refused BadState) s out ≡ running m n s out
+    → ended (refused badState) s out ≡ running m n s out
 unfolding running step
 run-bad m zero s out some bad = absurd (some refl)
 run-bad m (suc n) s out some bad = rw bad
@@ -347,7 +348,7 @@ run-short m (suc n) s out some well short = rw (is-true (wellFormed s) well, lt-
 -- a byte position past the message is 1, with a pixel missing or none
 pub run-past :
     (m : List ℕ) (n : ℕ) (s : State) (out : List ℕ) → (n ≡ 0 → ⊥) → T (wellFormed s) → needed s ≤ length out → length m < s .place .at
-    → ended (refused UnexpectedBufferEnd) s out ≡ running m n s out
+    → ended (refused endedEarly) s out ≡ running m n s out
 unfolding running step stepBy
 run-past m zero s out some well room past = absurd (some refl)
 run-past m (suc n) s out some well room past =
@@ -356,7 +357,7 @@ run-past m (suc n) s out some well room past =
     nothing : drop (s .place .at) m ≡ []
     nothing = drop-of-length-le m (le-of-lt past)
 
-    stops : move decoder (s .header) (s .wanted) m (s .place) ≡ Move.end (refused UnexpectedBufferEnd)
+    stops : move decoder (s .header) (s .wanted) m (s .place) ≡ Move.end (refused endedEarly)
     stops = past-move (s .header) (s .wanted) m (s .place) nothing
 
 -- what a run answers, by what its walk into the part of the output from a place on answers
@@ -370,7 +371,7 @@ module _ (header : Header) (number wanted : ℕ) (m out : List ℕ) (from : ℕ)
   back = put-rest out (w .out) from fits
 
   -- a chunk is cut short
-  pub answers-cut : w .cut ≡ true → ended (refused UnexpectedBufferEnd) (stateLeft header number wanted (w .place) left) left-out ≡ r
+  pub answers-cut : w .cut ≡ true → ended (refused endedEarly) (stateLeft header number wanted (w .place) left) left-out ≡ r
   answers-cut short = rw (back, is-left) (sym (rw short at ran))
 
   -- no step is left

@@ -118,7 +118,7 @@ impl Decoder {
         ensures { λ r. ⌜ Records (stateOf self) (now (out .entry)) r (now (out .exit)) ⌝ }
     {
         if !well_formed::well_formed(self) {
-            return Written::Refused(Error::BadState);
+            return Written::Refused(Error::BadState { at: 0 });
         }
         let required = self.record_len();
         if out.len() < required {

@@ -29,7 +29,7 @@ pub fn run(decoder: Decoder, message: &[u8], out: &mut [u8], steps: u64) -> Step
     }
     if !well_formed::well_formed(decoder) {
         return Stepped {
-            answer: StepAnswer::Refused(Error::BadState),
+            answer: StepAnswer::Refused(Error::BadState { at: 0 }),
             decoder,
         };
     }
@@ -45,7 +45,7 @@ pub fn run(decoder: Decoder, message: &[u8], out: &mut [u8], steps: u64) -> Step
     }
     if message.len() < decoder.at {
         return Stepped {
-            answer: StepAnswer::Refused(Error::UnexpectedBufferEnd),
+            answer: StepAnswer::Refused(Error::UnexpectedBufferEnd { at: 0 }),
             decoder,
         };
     }
@@ -98,7 +98,7 @@ fn go_on(decoder: Decoder, message: &[u8], out: &mut [u8], steps: usize, require
     };
     if walked.cut {
         return Stepped {
-            answer: StepAnswer::Refused(Error::UnexpectedBufferEnd),
+            answer: StepAnswer::Refused(Error::UnexpectedBufferEnd { at: 0 }),
             decoder: next,
         };
     }
@@ -120,7 +120,7 @@ fn close(message: &[u8], at: usize, size: usize) -> StepAnswer
     ensures { λ r. ⌜ r ≡ endAnswer (closing size (now (message .entry)) at) ⌝ }
 {
     match chunk::read_end(&message[at..]) {
-        Ending::Cut => StepAnswer::Refused(Error::UnexpectedBufferEnd),
+        Ending::Cut => StepAnswer::Refused(Error::UnexpectedBufferEnd { at: 0 }),
         Ending::Wrong => StepAnswer::Refused(Error::InvalidPadding),
         Ending::Marker => StepAnswer::Done { size, used: at + 8 },
     }

@@ -12,7 +12,8 @@ use borrow.Author.Tests.{ltb-true, ltb-false}
 use lib.Dec.{T, ltb, eqb, le→leb, leb→le}
 use lib.ListN.{length, drop}
 use Rattle.pixel.specs.declared.Pixel.{Pixel}
-use Rattle.pixel.specs.declared.error.Error.the-variants.{BadState, OutputBufferTooSmall}
+use Rattle.pixel.specs.declared.error.Error.the-variants.{OutputBufferTooSmall}
+use Rattle.pixel.specs.Refusal.{badState}
 use Rattle.pixel.specs.Colour.{alpha, withAlpha}
 use Rattle.header.specs.Header.{pixelCount}
 use Rattle.rules.specs.Chunk.{Chunk, colourOf}
@@ -41,7 +42,7 @@ needed s = sizeWanted (s .header) (s .wanted)
 
 -- the kinds of step: 9, 7, the move's end, and a chunk
 pub data Kind (m : List ℕ) (s : State) (room : ℕ) : Step → Type 0 where
-  not-well : wellFormed s ≡ false → Kind m s room (end (refused BadState))
+  not-well : wellFormed s ≡ false → Kind m s room (end (refused badState))
   no-room : room < needed s → Kind m s room (end (refused (OutputBufferTooSmall room (needed s))))
   at-end : (answer : Answer) → needed s ≤ room → moveFrom m s ≡ Move.end answer → Kind m s room (end answer)
   by-chunk :
@@ -73,7 +74,7 @@ module _ (m : List ℕ) (s : State) (room : ℕ) where
           → Kind m s room
           (cond b
           (cond (ltb room (needed s)) (end (refused (OutputBufferTooSmall room (needed s)))) (stepBy s (moveFrom m s)))
-          (end (refused BadState)))
+          (end (refused badState)))
       formed true e = roomy (ltb room (needed s)) refl
       formed false e = not-well e
 

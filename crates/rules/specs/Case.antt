@@ -11,7 +11,7 @@ use Rattle.pixel.specs.Colour.{slotOf, pixelOf, clearPixel}
 use Rattle.pixel.specs.Types.{channelsNumber, colorSpaceNumber}
 use Rattle.number.specs.declared.NumberRead.{NumberRead}
 use Rattle.number.specs.declared.NumberRead.the-variants as number-read
-use Rattle.number.specs.Seven.{sevenBitsOf, sevenBits, groupBelow, readMore, readNumber}
+use Rattle.number.specs.Seven.{sevenBitsOf, sevenBits, groupBelow, readMore, readFirst, readNumber}
 use Rattle.header.specs.declared.Header.{Header}
 use Rattle.header.specs.Header.{headerBytes, headerFrom, afterColorSpace, afterChannels, headerOf}
 use Rattle.rules.specs.Chunk.{chunkFrom, chunkAt, colourOf, timesOf, sizeOf}
@@ -23,7 +23,7 @@ use Rattle.rules.specs.Document.{documentReading, namesFilled, filledAft
 use Rattle.pixel.specs.Bytes.{pixelFrom, pixelsFrom}
 use Rattle.rules.specs.Encode.{EncodeAnswer, encoded, notEncoded, Encoding, fitsDiff, fitsLuma, diffChunk, lumaChunk, colourChunk, startPen, runEnded, slotHolds, differingChunk, pixelChunks, penAfter, chunksFrom, chunkBytes, chunksBytes, chunksOf, streamOf, afterLength, afterDimensions, pictureHeader, encodingInto, afterSpace, afterPictureHeader, encoding}
 use Rattle.rules.specs.Step.{State, wellFormed, startState, Started, started, notStarted, startWanted, startHeader, starting, Step, stepBy, step, steppedOver, Ran, going, ended, running}
-use Rattle.rules.specs.Record.{Recorded, recorded, notRecorded, pixelsBytes, recordBytes, recording, recordedOver, afterNumber, acceptNumber, acceptState, readSlots, readPositions, readWanted, readRecord}
+use Rattle.rules.specs.Record.{Recorded, recorded, notRecorded, pixelsBytes, recordBytes, recording, recordedOver, afterNumber, acceptNumber, faultOffset, acceptState, readSlots, readPositions, readWanted, readRecord}
 use Rattle.rules.specs.Strict.{StrictAnswer, strictClosed, strictClosing, strictCounted, strictBy, strictMove, strictFrom, strictHeader, strict, runsFitIn, runsFit, chunkCount}
 use Rattle.rules.specs.Figures.{refusalFigures, headerFigures, answerFigures, encodeFigures, strictFigures}
 
@@ -56,8 +56,8 @@ pub data Case : Type 0 where
   stepsOn : State → List ℕ → ℕ → List ℕ → List ℕ → Case
   -- a number: its bytes in a record, which are read back
   counts : ℕ → List ℕ → Case
-  -- bytes: the answer for the number that they start with
-  countsBack : List ℕ → List ℕ → Case
+  -- an offset, bytes: the answer for the number that starts there
+  countsBack : ℕ → List ℕ → List ℕ → Case
   -- a state, room: the answer for its record, the output at exit
   records : State → ℕ → List ℕ → List ℕ → Case
   -- the number expected, bytes: the answer for the record that they are; what is read back has the same record
@@ -254,14 +254,14 @@ outputAfter s out (Step.end verdict) = out
 -- whether a case holds of the definitions
 unfoldable pub holds : Case → Bool
 unfolding sameTest stateOf stateAfter afterRun resumed checkpointed begun encodedSize startIs strictIs outputAfter slotOf
-    sevenBitsOf sevenBits groupBelow readMore readNumber headerBytes headerFrom afterColorSpace afterChannels headerOf
+    sevenBitsOf sevenBits groupBelow readMore readFirst readNumber headerBytes headerFrom afterColorSpace afterChannels headerOf
     chunkFrom chunkAt colourOf timesOf sizeOf sameBytes repeated closing startPlace pixelsBrought pixelAfter
     placeAfter bytesOf moveBy move reading readingInto afterWanted afterHeader wholeReading decoderStores decoderKeeps
     decoderReadsRgba fitsDiff fitsLuma diffChunk lumaChunk colourChunk startPen runEnded slotHolds differingChunk
     pixelChunks penAfter chunksFrom chunkBytes chunksBytes pixelFrom pixelsFrom chunksOf streamOf encodingInto
     afterLength afterDimensions pictureHeader afterSpace afterPictureHeader encoding wellFormed startWanted startHeader
     starting stepBy step running pixelsBytes recordBytes recording recordedOver restOf afterNumber acceptNumber
-    acceptState readSlots readPositions readWanted readRecord strictClosed strictClosing strictCounted strictBy
+    faultOffset acceptState readSlots readPositions readWanted readRecord strictClosed strictClosing strictCounted strictBy
     strictMove strictFrom strictHeader strict runsFitIn namesFilled filledAfter chunkDue indexesFilled visitsOn visits
     headerTrace trace filledIn
 holds (streams width height channels colorspace picture stream) =
@@ -288,8 +288,8 @@ holds (starts m number wanted figures) =
 holds (stepsOn s m room figures out) =
     sameBytes (stepFigures (step s m room)) figures && sameBytes (outputAfter s (held room) (step s m room)) out
 holds (counts n bytes) =
-    sameBytes (sevenBits n) bytes && sameBytes (numberFigures (readNumber bytes)) (accepted (n ∷ length bytes ∷ []))
-holds (countsBack bytes figures) = sameBytes (numberFigures (readNumber bytes)) figures
+    sameBytes (sevenBits n) bytes && sameBytes (numberFigures (readNumber bytes 0)) (accepted (n ∷ length bytes ∷ []))
+holds (countsBack start bytes figures) = sameBytes (numberFigures (readNumber bytes start)) figures
 holds (records s room figures out) =
     sameBytes (recordFigures (recording s room)) figures && sameBytes (recordedOver s (held room)) out
 holds (readsBack expected bytes figures) = startIs figures bytes (readRecord expected bytes)

@@ -498,12 +498,18 @@ recordRows =
     ∷ counts 128 (0x80 ∷ 0x01 ∷ [])
     -- at most 2^64-1
     ∷ counts largest largestBytes
-    -- a tenth byte above 01 is 9
-    ∷ countsBack (replicate 9 0xff ++ (0x02 ∷ [])) (refusal 9 [])
-    -- not shortest is 9
-    ∷ countsBack (0x82 ∷ 0x00 ∷ []) (refusal 9 [])
-    -- cut short is 1
-    ∷ countsBack (0x82 ∷ []) (refusal 1 [])
+    -- a number after three bytes
+    ∷ countsBack 3 (held 3 ++ (0xac ∷ 0x02 ∷ [])) (accepted (300 ∷ 2 ∷ []))
+    -- a tenth byte above 01 is 9, with the offset at which the number starts
+    ∷ countsBack 3 (held 3 ++ (replicate 9 0xff ++ (0x02 ∷ []))) (refusal 9 (3 ∷ []))
+    -- not shortest is 9 there
+    ∷ countsBack 3 (held 3 ++ (0x82 ∷ 0x00 ∷ [])) (refusal 9 (3 ∷ []))
+    -- cut short is 1 there
+    ∷ countsBack 3 (held 3 ++ (0x82 ∷ [])) (refusal 1 (3 ∷ []))
+    -- also where nothing is left of it
+    ∷ countsBack 3 (held 3) (refusal 1 (3 ∷ []))
+    -- or less than nothing
+    ∷ countsBack largest (held 3) (refusal 1 (largest ∷ []))
     -- the shortest record, 278 bytes; bytes after it stay
     ∷ records (stateFrom 1 1 Rgb 7 3) 280 (accepted (278 ∷ []))
     (fourteen 1 1 3 0 ++ (3 ∷ 14 ∷ 0 ∷ (rgba 0 0 0 255 ++ (replicate 256 0 ++ (7 ∷ held 2)))))
@@ -529,48 +535,70 @@ recordRows =
     ∷ readsBack 7 (recordBytes (stateFrom 1 1 Rgb 7 4)) (accepted (14 ∷ 0 ∷ 4 ∷ 1 ∷ []))
     -- also of the largest number
     ∷ readsBack largest (recordBytes (stateFrom 1 1 Rgb largest 3)) (accepted (14 ∷ 0 ∷ 3 ∷ 1 ∷ []))
-    -- reading goes left to right: a header cut short is 1
+    -- reading goes left to right: a header cut short is 1 at 0
     ∷ readsBack 7 (take 13 startRecord) (refusal 1 [])
     -- header as above
     ∷ readsBack 7 (wrongMagic 5 9) (refusal 2 (5 ∷ []))
-    -- cut short before wanted: 1
-    ∷ readsBack 7 (take 14 startRecord) (refusal 1 [])
-    -- wanted not shortest: 9
-    ∷ readsBack 7 (take 14 startRecord ++ (0x82 ∷ 0x00 ∷ [])) (refusal 9 [])
+    -- cut short before wanted: 1 where it would start
+    ∷ readsBack 7 (take 14 startRecord) (refusal 1 (14 ∷ []))
+    -- wanted not shortest: 9 where it starts
+    ∷ readsBack 7 (take 14 startRecord ++ (0x82 ∷ 0x00 ∷ [])) (refusal 9 (14 ∷ []))
     -- wanted other than 3 or 4 is 2 at its place
     ∷ readsBack 7 (take 14 startRecord ++ (0x05 ∷ [])) (refusal 2 (5 ∷ []))
     -- capped at 255
     ∷ readsBack 7 (take 14 startRecord ++ (0xac ∷ 0x02 ∷ [])) (refusal 2 (255 ∷ []))
     -- byte position not shortest: 9
-    ∷ readsBack 7 (take 15 startRecord ++ (0x8e ∷ 0x00 ∷ [])) (refusal 9 [])
+    ∷ readsBack 7 (take 15 startRecord ++ (0x8e ∷ 0x00 ∷ [])) (refusal 9 (15 ∷ []))
+    -- its tenth byte above 01
+    ∷ readsBack 7 (take 15 startRecord ++ (replicate 9 0xff ++ (0x02 ∷ []))) (refusal 9 (15 ∷ []))
+    -- cut short after nine bytes: 1
+    ∷ readsBack 7 (take 15 startRecord ++ replicate 9 0xff) (refusal 1 (15 ∷ []))
     -- cut short before pixel position: 1
-    ∷ readsBack 7 (take 16 startRecord) (refusal 1 [])
+    ∷ readsBack 7 (take 16 startRecord) (refusal 1 (16 ∷ []))
     -- pixel position not shortest: 9
-    ∷ readsBack 7 (take 16 startRecord ++ (0x80 ∷ 0x00 ∷ [])) (refusal 9 [])
-    -- the last slot cut short: 1
-    ∷ readsBack 7 (take 276 startRecord) (refusal 1 [])
+    ∷ readsBack 7 (take 16 startRecord ++ (0x80 ∷ 0x00 ∷ [])) (refusal 9 (16 ∷ []))
+    -- after a byte position of two bytes
+    ∷ readsBack 7 (take 15 startRecord ++ (0xac ∷ 0x02 ∷ 0x80 ∷ 0x00 ∷ [])) (refusal 9 (17 ∷ []))
+    -- the current pixel cut short: 1
+    ∷ readsBack 7 (take 20 startRecord) (refusal 1 (17 ∷ []))
+    -- the slots cut short: 1 where the first one starts
+    ∷ readsBack 7 (take 21 startRecord) (refusal 1 (21 ∷ []))
+    -- the last slot cut short, too
+    ∷ readsBack 7 (take 276 startRecord) (refusal 1 (21 ∷ []))
     -- cut short comes before byte position 13
-    ∷ readsBack 7 (take 15 startRecord ++ (0x0d ∷ 0x00 ∷ replicate 259 0)) (refusal 1 [])
+    ∷ readsBack 7 (take 15 startRecord ++ (0x0d ∷ 0x00 ∷ replicate 259 0)) (refusal 1 (21 ∷ []))
     -- a record from before it had a number ends too early: 1
-    ∷ readsBack 7 (unnumbered 14 0 255) (refusal 1 [])
+    ∷ readsBack 7 (unnumbered 14 0 255) (refusal 1 (277 ∷ []))
     -- also where its byte position is 13: the number comes before the state's other faults
-    ∷ readsBack 7 (unnumbered 13 0 255) (refusal 1 [])
+    ∷ readsBack 7 (unnumbered 13 0 255) (refusal 1 (277 ∷ []))
     -- the number cut short: 1
-    ∷ readsBack 7 (take 277 startRecord ++ (0x87 ∷ [])) (refusal 1 [])
+    ∷ readsBack 7 (take 277 startRecord ++ (0x87 ∷ [])) (refusal 1 (277 ∷ []))
     -- not shortest: 9
-    ∷ readsBack 7 (take 277 startRecord ++ (0x87 ∷ 0x00 ∷ [])) (refusal 9 [])
+    ∷ readsBack 7 (take 277 startRecord ++ (0x87 ∷ 0x00 ∷ [])) (refusal 9 (277 ∷ []))
     -- above 2^64-1: 9
-    ∷ readsBack largest (take 277 startRecord ++ (replicate 9 0xff ++ (0x02 ∷ []))) (refusal 9 [])
+    ∷ readsBack largest (take 277 startRecord ++ (replicate 9 0xff ++ (0x02 ∷ []))) (refusal 9 (277 ∷ []))
     -- after the number, byte position 13 is 9, before another number
-    ∷ readsBack 8 (unnumbered 13 0 255 ++ (7 ∷ [])) (refusal 9 [])
+    ∷ readsBack 8 (unnumbered 13 0 255 ++ (7 ∷ [])) (refusal 9 (15 ∷ []))
     -- so is pixel position 2 of 1
-    ∷ readsBack 8 (unnumbered 14 2 255 ++ (7 ∷ [])) (refusal 9 [])
+    ∷ readsBack 8 (unnumbered 14 2 255 ++ (7 ∷ [])) (refusal 9 (16 ∷ []))
+    -- also after a byte position of two bytes
+    ∷ readsBack 7 (recordBytes (stateLeft 1 1 Rgb 3 300 2 0 255)) (refusal 9 (17 ∷ []))
     -- and a current pixel whose fourth byte is 254, with wanted 3
-    ∷ readsBack 8 (unnumbered 14 0 254 ++ (7 ∷ [])) (refusal 9 [])
-    -- extra bytes: 9, before another number
-    ∷ readsBack 8 (startRecord ++ (0 ∷ [])) (refusal 9 [])
-    -- extra bytes with the number expected
-    ∷ readsBack 7 (startRecord ++ (0 ∷ [])) (refusal 9 [])
+    ∷ readsBack 8 (unnumbered 14 0 254 ++ (7 ∷ [])) (refusal 9 (17 ∷ []))
+    -- also after longer positions
+    ∷ readsBack 7 (recordBytes (stateLeft 300 1 Rgb 3 300 299 1 254)) (refusal 9 (19 ∷ []))
+    -- of several faults of state the first is told
+    ∷ readsBack 8 (unnumbered 13 2 254 ++ (7 ∷ [])) (refusal 9 (15 ∷ []))
+    -- the pixel position before the current pixel
+    ∷ readsBack 8 (unnumbered 14 2 254 ++ (7 ∷ [])) (refusal 9 (16 ∷ []))
+    -- and a fault of state before extra bytes
+    ∷ readsBack 8 (unnumbered 14 0 254 ++ (7 ∷ 0 ∷ [])) (refusal 9 (17 ∷ []))
+    -- extra bytes: 9 where they begin, before another number
+    ∷ readsBack 8 (startRecord ++ (0 ∷ [])) (refusal 9 (278 ∷ []))
+    -- however many, with the number expected
+    ∷ readsBack 7 (startRecord ++ (0 ∷ 0 ∷ [])) (refusal 9 (278 ∷ []))
+    -- after the longest number
+    ∷ readsBack largest (recordBytes (stateFrom 1 1 Rgb largest 3) ++ (0 ∷ [])) (refusal 9 (287 ∷ []))
     -- another number last: 12, with the number found
     ∷ readsBack 8 startRecord (refusal 12 (7 ∷ []))
     -- whatever its size

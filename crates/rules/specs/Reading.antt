@@ -7,7 +7,8 @@ use lib.Dec.{ltb}
 use lib.ListN.{length, take, drop, set, replicate}
 use Rattle.pixel.specs.declared.Pixel.{Pixel}
 use Rattle.pixel.specs.declared.error.Error.{Error}
-use Rattle.pixel.specs.declared.error.Error.the-variants.{UnexpectedBufferEnd, InvalidPadding, OutputBufferTooSmall}
+use Rattle.pixel.specs.declared.error.Error.the-variants.{InvalidPadding, OutputBufferTooSmall}
+use Rattle.pixel.specs.Refusal.{endedEarly}
 use Rattle.pixel.specs.declared.types.ChannelsRead.{ChannelsRead}
 use Rattle.pixel.specs.declared.types.ChannelsRead.the-variants as channels-read
 use Rattle.pixel.specs.Colour.{slotOf, startPixel, clearPixel}
@@ -70,7 +71,7 @@ marker = 0 ∷ 0 ∷ 0 ∷ 0 ∷ 0 ∷ 0 ∷ 0 ∷ 1 ∷ []
 -- what the message holds after its last chunk: under 8 bytes, refusal 1; not the marker, 8; later bytes are ignored
 unfoldable pub closing : ℕ → List ℕ → ℕ → Answer
 closing size message at =
-    cond (ltb (length (drop at message)) 8) (refused UnexpectedBufferEnd)
+    cond (ltb (length (drop at message)) 8) (refused endedEarly)
     (cond (sameBytes (take 8 (drop at message)) marker) (done size (at + 8)) (refused InvalidPadding))
 
 -- before the first chunk: start pixel (0,0,0,255), 64 slots of (0,0,0,0)
@@ -107,7 +108,7 @@ module _ (way : Way) (header : Header) (wanted : ℕ) where
 
   -- a chunk whose bytes are not all there is refusal 1
   unfoldable pub moveBy : Place → Found → Move
-  moveBy place cut = end (refused UnexpectedBufferEnd)
+  moveBy place cut = end (refused endedEarly)
   moveBy place (chunk k) = more (placeAfter place k) (bytesOf place k)
 
 module _ (way : Way) (header : Header) (wanted : ℕ) (message : List ℕ) where

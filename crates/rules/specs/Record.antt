@@ -2,12 +2,13 @@
 -- The order of refusals reads from the bottom up: the last definition of it makes the first test.
 use mathlib.Core.Bool.{cond}
 use mathlib.Core.List.{List, [], _∷_, _++_}
-use Prim.Native.Nat.{ℕ, _-_}
+use Prim.Native.Nat.{ℕ, _+_, _-_}
 use lib.Dec.{ltb, eqb}
 use lib.ListN.{length, drop}
 use Rattle.pixel.specs.declared.Pixel.{Pixel}
 use Rattle.pixel.specs.declared.error.Error.{Error}
 use Rattle.pixel.specs.declared.error.Error.the-variants.{UnexpectedBufferEnd, BadState, OutputBufferTooSmall, OtherMessage}
+use Rattle.pixel.specs.Refusal.{badState}
 use Rattle.pixel.specs.declared.types.ChannelsRead.{ChannelsRead}
 use Rattle.pixel.specs.declared.types.ChannelsRead.the-variants as channels-read
 use Rattle.pixel.specs.Types.{channelsNumber, channelsFrom}
@@ -20,7 +21,7 @@ use Rattle.header.specs.declared.HeaderRead.the-variants as header-read
 use Rattle.header.specs.Header.{pixelCount, headerBytes, headerOf}
 use Rattle.rules.specs.Bytes.{writtenOver}
 use Rattle.pixel.specs.Bytes.{pixelFrom, pixelsFrom}
-use Rattle.rules.specs.Step.{State, wellFormed, Started, started, notStarted}
+use Rattle.rules.specs.Step.{State, atPasses, pixelPasses, wellFormed, Started, started, notStarted}
 
 -- pixels one after another, four bytes each
 unfoldable pub pixelsBytes : List Pixel → List ℕ
@@ -50,34 +51,53 @@ recording s room =
     cond (wellFormed s)
     (cond (ltb room (length (recordBytes s))) (notRecorded (OutputBufferTooSmall room (length (recordBytes s))))
     (recorded (length (recordBytes s))))
-    (notRecorded BadState)
+    (notRecorded badState)
 
 -- the output then: the record and what stood after it; after a refusal, what it held
 unfoldable pub recordedOver : State → List ℕ → List ℕ
 recordedOver s out =
     cond (wellFormed s) (cond (ltb (length out) (length (recordBytes s))) out (writtenOver (recordBytes s) out)) out
 
--- a number, and then what follows its bytes
-unfoldable pub afterNumber : List ℕ → NumberRead → (ℕ → List ℕ → Started) → Started
-afterNumber bytes (number-read.Number value used) next = next value (drop used bytes)
-afterNumber bytes (number-read.Refused e) next = notStarted e
+-- a number that starts at an offset, and then what starts where it ends
+unfoldable pub afterNumber : ℕ → NumberRead → (ℕ → ℕ → Started) → Started
+afterNumber start (number-read.Number value used) next = next value (start + used)
+afterNumber start (number-read.Refused e) next = notStarted e
 
 -- last of all 12, with the number found, for another number than the one expected
 unfoldable pub acceptNumber : ℕ → State → Started
 acceptNumber expected s = cond (eqb (s .number) expected) (started s) (notStarted (OtherMessage (s .number)))
 
--- after the number: the other faults of state, 9; extra bytes, 9
-unfoldable pub acceptState : ℕ → State → ℕ → Started
-acceptState expected s extra =
-    cond (wellFormed s) (cond (eqb extra 0) (acceptNumber expected s) (notStarted BadState)) (notStarted BadState)
+-- where the record of a state has its byte position
+abbrev pub atOffset : State → ℕ
+atOffset s = 14 + length (sevenBits (s .wanted))
 
--- the current pixel and the slots, 260 bytes, cut short is 1; then the message's number. The record does not hold the
--- pixels left: they are those from the pixel position on
-unfoldable pub readSlots : ℕ → Header → ℕ → ℕ → ℕ → List ℕ → Started
-readSlots expected header wanted at pixel bytes =
-    cond (ltb (length bytes) 260) (notStarted UnexpectedBufferEnd)
-    (afterNumber (drop 260 bytes) (readNumber (drop 260 bytes))
-    (λ number rest.
+-- its pixel position
+abbrev pub pixelOffset : State → ℕ
+pixelOffset s = atOffset s + length (sevenBits (s .place .at))
+
+-- its current pixel
+abbrev pub currentOffset : State → ℕ
+currentOffset s = pixelOffset s + length (sevenBits (s .place .pixel))
+
+-- and the first of these fields that has a fault of state
+unfoldable pub faultOffset : State → ℕ
+faultOffset s = cond (atPasses s) (cond (pixelPasses s) (currentOffset s) (pixelOffset s)) (atOffset s)
+
+-- after the number, which ends a record of this size: the other faults of state, 9 at the first; extra bytes, 9 where
+-- they begin
+unfoldable pub acceptState : ℕ → State → ℕ → ℕ → Started
+acceptState expected s end size =
+    cond (wellFormed s) (cond (eqb end size) (acceptNumber expected s) (notStarted (BadState end)))
+    (notStarted (BadState (faultOffset s)))
+
+-- the current pixel, 4 bytes, and the slots, 256 bytes, each cut short is 1; then the message's number. The record does
+-- not hold the pixels left: they are those from the pixel position on
+unfoldable pub readSlots : ℕ → Header → ℕ → ℕ → ℕ → List ℕ → ℕ → Started
+readSlots expected header wanted at pixel bytes start =
+    cond (ltb (length bytes) (start + 4)) (notStarted (UnexpectedBufferEnd start))
+    (cond (ltb (length bytes) (start + 260)) (notStarted (UnexpectedBufferEnd (start + 4)))
+    (afterNumber (start + 260) (readNumber bytes (start + 260))
+    (λ number end.
     acceptState expected
     (record {
       header = header;
@@ -85,30 +105,31 @@ readSlots expected header wanted at pixel bytes =
       place = record {
         at = at;
         pixel = pixel;
-        current = pixelFrom 4 bytes;
-        slots = pixelsFrom 64 4 (drop 4 bytes);
+        current = pixelFrom 4 (drop start bytes);
+        slots = pixelsFrom 64 4 (drop (start + 4) bytes);
       };
       left = pixelCount header - pixel;
       number = number;
     })
-    (length rest)))
+    end (length bytes))))
 
 -- after wanted, where other than 3 or 4 is 2: byte position and pixel position
-unfoldable pub readPositions : ℕ → Header → ChannelsRead → List ℕ → Started
-readPositions expected header (channels-read.Refused e) bytes = notStarted e
-readPositions expected header (channels-read.Ok channels) bytes =
-    afterNumber bytes (readNumber bytes)
-    (λ at rest.
-    afterNumber rest (readNumber rest)
-    (λ pixel rest′. readSlots expected header (channelsNumber channels) at pixel rest′))
+unfoldable pub readPositions : ℕ → Header → ChannelsRead → List ℕ → ℕ → Started
+readPositions expected header (channels-read.Refused e) bytes start = notStarted e
+readPositions expected header (channels-read.Ok channels) bytes start =
+    afterNumber start (readNumber bytes start)
+    (λ at next.
+    afterNumber next (readNumber bytes next)
+    (λ pixel last. readSlots expected header (channelsNumber channels) at pixel bytes last))
 
 -- after the header, with its refusals: wanted
 unfoldable pub readWanted : ℕ → HeaderRead → List ℕ → Started
 readWanted expected (header-read.Refused e) bytes = notStarted e
 readWanted expected (header-read.Ok header) bytes =
-    afterNumber bytes (readNumber bytes) (λ wanted rest. readPositions expected header (channelsFrom wanted) rest)
+    afterNumber 14 (readNumber bytes 14) (λ wanted next. readPositions expected header (channelsFrom wanted) bytes next)
 
 -- reading a record, given the message's number that is expected: header; numbers, cut 1 or not shortest 9; wanted 2 at
--- its place; slots; the number; the faults of state; extra bytes; another number
+-- its place; slots; the number; the faults of state; extra bytes; another number. Each 1 and 9 carries the offset of the
+-- field that is cut or has the fault: a cut header's is 0
 unfoldable pub readRecord : ℕ → List ℕ → Started
-readRecord expected bytes = readWanted expected (headerOf bytes) (drop 14 bytes)
+readRecord expected bytes = readWanted expected (headerOf bytes) bytes

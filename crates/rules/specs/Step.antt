@@ -7,7 +7,8 @@ use Prim.Native.Nat.{ℕ, zero, suc, _+_, _-_, _*_, _^_, _<_}
 use lib.Dec.{ltb, leb, eqb}
 use lib.ListN.{length, getD}
 use Rattle.pixel.specs.declared.error.Error.{Error}
-use Rattle.pixel.specs.declared.error.Error.the-variants.{BadState, OutputBufferTooSmall}
+use Rattle.pixel.specs.declared.error.Error.the-variants.{OutputBufferTooSmall}
+use Rattle.pixel.specs.Refusal.{badState}
 use Rattle.pixel.specs.declared.types.ChannelsRead.{ChannelsRead}
 use Rattle.pixel.specs.declared.types.ChannelsRead.the-variants as channels-read
 use Rattle.pixel.specs.Colour.{alpha, clearPixel}
@@ -120,7 +121,7 @@ step s message room =
     (cond (ltb room (sizeWanted (s .header) (s .wanted)))
     (end (refused (OutputBufferTooSmall room (sizeWanted (s .header) (s .wanted)))))
     (stepBy s (move decoder (s .header) (s .wanted) message (s .place))))
-    (end (refused BadState))
+    (end (refused badState))
 
 -- a lent output after a step: the bytes from the state's pixel on, and all others as they were
 abbrev pub steppedOver : State → List ℕ → List ℕ → List ℕ

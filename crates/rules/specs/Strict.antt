@@ -7,7 +7,8 @@ use Prim.Native.Nat.{ℕ, zero, suc, _+_, _-_}
 use lib.Dec.{ltb, leb, eqb}
 use lib.ListN.{length, drop}
 use Rattle.pixel.specs.declared.error.Error.{Error}
-use Rattle.pixel.specs.declared.error.Error.the-variants.{InvalidPadding, RunPastImage, BytesAfterMarker, UnexpectedBufferEnd}
+use Rattle.pixel.specs.declared.error.Error.the-variants.{InvalidPadding, RunPastImage, BytesAfterMarker}
+use Rattle.pixel.specs.Refusal.{endedEarly}
 use Rattle.pixel.specs.Types.{channelsNumber}
 use Rattle.header.specs.declared.Header.{Header}
 use Rattle.header.specs.declared.HeaderRead.{HeaderRead}
@@ -59,7 +60,7 @@ module _ (header : Header) (message : List ℕ) where
 
   -- at each chunk 1, then 8 at once for an ff that is stuck, then 10
   unfoldable pub strictBy : Tally → Found → StrictMove
-  strictBy tally cut = end (rejected UnexpectedBufferEnd)
+  strictBy tally cut = end (rejected endedEarly)
   strictBy tally (chunk (INDEX slot)) = strictCounted tally (INDEX slot)
   strictBy tally (chunk (DIFF r g b)) = strictCounted tally (DIFF r g b)
   strictBy tally (chunk (LUMA g r b)) = strictCounted tally (LUMA g r b)

@@ -6,7 +6,8 @@ use Prim.Native.Nat.{ℕ, zero, suc, _+_, _-_, _≤_, _<_}
 use native.Mathlib.Omega.{arith}
 use borrow.Author.Tests.{ne-eqb, le-leb, lt-leb}
 use lib.ListN.{length, take, drop, length-drop}
-use Rattle.pixel.specs.declared.error.Error.the-variants.{InvalidPadding, RunPastImage, UnexpectedBufferEnd}
+use Rattle.pixel.specs.declared.error.Error.the-variants.{InvalidPadding, RunPastImage}
+use Rattle.pixel.specs.Refusal.{endedEarly}
 use Rattle.pixel.specs.Types.{channelsNumber}
 use Rattle.header.specs.declared.Header.{Header}
 use Rattle.header.specs.declared.HeaderRead.the-variants as header-read
@@ -98,7 +99,7 @@ module _ {header : Header} {message : List ℕ} {pixels left at chunks : ℕ}
         h .same ∙ rw (more, some, f)
 
     -- a chunk that is cut short
-    pub ends-cut : Holds header message at found.Cut → strict message ≡ rejected UnexpectedBufferEnd
+    pub ends-cut : Holds header message at found.Cut → strict message ≡ rejected endedEarly
     unfolding strictBy
     ends-cut f = moved found.Cut f
 

@@ -61,7 +61,7 @@ fn check(message: &[u8], header: Header) -> StrictAnswer
     while 0 < left {
         match chunk::read(source, &message[at..]) {
             Found::Cut => {
-                return StrictAnswer::Refused(Error::UnexpectedBufferEnd);
+                return StrictAnswer::Refused(Error::UnexpectedBufferEnd { at: 0 });
             }
             Found::Index(_) => {
                 at += 1;
@@ -105,7 +105,7 @@ fn close(message: &[u8], header: Header, chunks: usize, end: usize) -> StrictAns
         ≡ strictClosed header (now (message .entry)) chunks (closing 0 (now (message .entry)) end) ⌝ }
 {
     match chunk::read_end(&message[end..]) {
-        Ending::Cut => StrictAnswer::Refused(Error::UnexpectedBufferEnd),
+        Ending::Cut => StrictAnswer::Refused(Error::UnexpectedBufferEnd { at: 0 }),
         Ending::Wrong => StrictAnswer::Refused(Error::InvalidPadding),
         Ending::Marker => {
             let bytes = end + QOI_PADDING_SIZE;

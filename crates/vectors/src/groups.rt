@@ -117,7 +117,7 @@ fn header_of(
 // The header that ten bytes name: width, height, channels, colour space.
 fn header_named(input: &[u8]) -> HeaderRead {
     if input.len() < 10 {
-        return HeaderRead::Refused(Error::BadState);
+        return HeaderRead::Refused(Error::BadState { at: 0 });
     }
     header_of(
         big_endian::four(input[0], input[1], input[2], input[3]),

@@ -72,9 +72,7 @@ told number none found t room steps =
 
 returns : tie.Need-returns
 unfolding sentence
-returns c =
-    let test = c .before .before in
-    told 1 (test .before) (test .if1 .taken) (c .words .result) (lit≤ tt) (c .words .result, c .words .ensures, refl)
+returns c = rw (c .before .if1 .taken) (c .end .ensures)
 
 returns-2 : tie.Need-returns-2
 unfolding sentence
@@ -87,7 +85,7 @@ unfolding sentence
 returns-3 c =
     let one = c .before .before in
     let test = one .before .before in
-    told 3 (tests-2 (test .before)) (test .if3 .taken) (c .words2 .result) (lit≤ tt) (one .figure2 .result, one .figure2 .ensures, (c .words2 .result, c .words2 .ensures, refl))
+    told 3 (tests-2 (test .before)) (test .if3 .taken) (c .words .result) (lit≤ tt) (one .figure2 .result, one .figure2 .ensures, (c .words .result, c .words .ensures, refl))
 
 returns-4 : tie.Need-returns-4
 unfolding sentence
@@ -114,31 +112,29 @@ returns-7 c =
     let two = c .before .before in
     let one = two .before .before in
     let test = one .before .before in
-    told 7 (tests-6 (test .before)) (test .if7 .taken) (c .words3 .result) (lit≤ tt) (one .figure8 .result, one .figure8 .ensures, (two .figure9 .result, two .figure9 .ensures, (c .words3 .result, c .words3 .ensures, refl)))
+    told 7 (tests-6 (test .before)) (test .if7 .taken) (c .words2 .result) (lit≤ tt) (one .figure8 .result, one .figure8 .ensures, (two .figure9 .result, two .figure9 .ensures, (c .words2 .result, c .words2 .ensures, refl)))
 
 returns-8 : tie.Need-returns-8
 unfolding sentence
 returns-8 c =
     let test = c .before .before in
-    told 8 (tests-7 (test .before)) (test .if8 .taken) (c .words4 .result) (lit≤ tt) (c .words4 .result, c .words4 .ensures, refl)
+    told 8 (tests-7 (test .before)) (test .if8 .taken) (c .words3 .result) (lit≤ tt) (c .words3 .result, c .words3 .ensures, refl)
 
 returns-9 : tie.Need-returns-9
 unfolding sentence
-returns-9 c =
-    let test = c .before .before in
-    told 9 (tests-8 (test .before)) (test .if9 .taken) (c .words5 .result) (lit≤ tt) (c .words5 .result, c .words5 .ensures, refl)
+returns-9 c = rw (c .before .if9 .taken) (c .bad .ensures)
 
 returns-10 : tie.Need-returns-10
 unfolding sentence
 returns-10 c =
     let test = c .before .before in
-    told 10 (tests-9 (test .before)) (test .if10 .taken) (c .words6 .result) (lit≤ tt) (c .words6 .result, c .words6 .ensures, refl)
+    told 10 (tests-9 (test .before)) (test .if10 .taken) (c .words4 .result) (lit≤ tt) (c .words4 .result, c .words4 .ensures, refl)
 
 returns-11 : tie.Need-returns-11
 unfolding sentence
 returns-11 c =
     let test = c .before .before in
-    told 11 (tests-10 (test .before)) (test .if11 .taken) (c .words7 .result) (lit≤ tt) (c .words7 .result, c .words7 .ensures, refl)
+    told 11 (tests-10 (test .before)) (test .if11 .taken) (c .words5 .result) (lit≤ tt) (c .words5 .result, c .words5 .ensures, refl)
 
 returns-12 : tie.Need-returns-12
 unfolding sentence
@@ -151,7 +147,7 @@ unfolding sentence
 returns-13 c =
     let one = c .before .before in
     let test = one .before .before in
-    told 19 (tests-12 (test .before)) (test .if13 .taken) (c .words8 .result) (lit≤ tt) (one .figure11 .result, one .figure11 .ensures, (c .words8 .result, c .words8 .ensures, refl))
+    told 19 (tests-12 (test .before)) (test .if13 .taken) (c .words6 .result) (lit≤ tt) (one .figure11 .result, one .figure11 .ensures, (c .words6 .result, c .words6 .ensures, refl))
 
 returns-14 : tie.Need-returns-14
 unfolding sentence
@@ -159,14 +155,14 @@ returns-14 c =
     let two = c .before .before in
     let one = two .before .before in
     let test = one .before .before in
-    told 20 (tests-13 (test .before)) (test .if14 .taken) (c .words9 .result) (lit≤ tt) (one .figure12 .result, one .figure12 .ensures, (two .figure13 .result, two .figure13 .ensures, (c .words9 .result, c .words9 .ensures, refl)))
+    told 20 (tests-13 (test .before)) (test .if14 .taken) (c .words7 .result) (lit≤ tt) (one .figure12 .result, one .figure12 .ensures, (two .figure13 .result, two .figure13 .ensures, (c .words7 .result, c .words7 .ensures, refl)))
 
 returns-15 : tie.Need-returns-15
 unfolding sentence
 returns-15 c =
     let one = c .before .before in
     let test = one .before .before in
-    told 21 (tests-14 (test .before)) (test .if15 .taken) (c .words10 .result) (lit≤ tt) (one .figure14 .result, one .figure14 .ensures, (c .words10 .result, c .words10 .ensures, refl))
+    told 21 (tests-14 (test .before)) (test .if15 .taken) (c .words8 .result) (lit≤ tt) (one .figure14 .result, one .figure14 .ensures, (c .words8 .result, c .words8 .ensures, refl))
 
 returns-16 : tie.Need-returns-16
 unfolding sentence
@@ -182,7 +178,6 @@ of-spec =
     tie.close
     (tie.spec
     (λ c κs. search needs)
-    (λ c. search needs)
     (λ c κs. search needs)
     returns
     (λ c. search needs)
@@ -217,7 +212,6 @@ of-spec =
     (λ c. search needs)
     (λ c κs. search needs)
     returns-8
-    (λ c. search needs)
     (λ c κs. search needs)
     returns-9
     (λ c. search needs)
