@@ -8,8 +8,8 @@ use Prim.Native.Nat.{ℕ, zero, suc, _+_, _*_, _≤_}
 use native.Mathlib.Omega.{arith}
 use borrow.Author.Tests.{eqb-true, ltb-false}
 use lib.Dec.{T, ltb, eqb}
-use lib.ListN.{length, take, drop, length-take, take-append-drop}
-use lib.Seq.{getD-drop}
+use lib.ListN.{length, take, drop, length-take, length-drop, take-append-drop, drop-of-length-le}
+use lib.Seq.{drop-drop}
 use Rattle.pixel.specs.declared.error.Error.{Error}
 use Rattle.pixel.specs.declared.types.ChannelsRead.{ChannelsRead}
 use Rattle.pixel.specs.declared.types.ChannelsRead.the-variants as channels-read
@@ -27,11 +27,6 @@ use Rattle.header.proofs.Laws.{channels-number, header-written-back}
 use Rattle.rules.specs.Step.{State, wellFormed, Started, started, notStarted}
 use Rattle.rules.specs.Record.{pixelsBytes, recordBytes, afterNumber, acceptNumber, acceptState, readSlots, readPositions, readWanted, readRecord}
 use Rattle.rules.proofs.RecordLaws.{refused-is-no-start, sized}
-use Rattle.rules.proofs.PictureLaws.{every-byte}
-
--- the bytes after some bytes are bytes
-dropped-bytes : (n : ℕ) (bytes : List ℕ) → AllBytes bytes → AllBytes (drop n bytes)
-dropped-bytes n bytes are i h = rw (getD-drop n bytes i 0) (every-byte bytes are (n + i))
 
 -- pixels of four bytes each are written back as those bytes, whatever follows
 pixels-back : (n : ℕ) (front rest : List ℕ) → length front ≡ n * 4 → pixelsBytes (pixelsFrom n 4 (front ++ rest)) ≡ front
@@ -54,11 +49,6 @@ slots-back bytes long =
     let size : length (take 260 bytes) ≡ 65 * 4 = simp length-take (omega arith) in
     rw (take-append-drop 260 bytes) at (pixels-back 65 (take 260 bytes) (drop 260 bytes) size)
 
--- what nothing follows is all
-all-of : (front rest bytes : List ℕ) → front ++ rest ≡ bytes → length rest ≡ 0 → front ≡ bytes
-all-of front [] bytes is none = sym (append-nil front) ∙ is
-all-of front (x ∷ xs) bytes is none = absurd (omega (arith, none))
-
 module _ (expected : ℕ) (s : State) where
   -- a test that passed, where failing is a refusal
   passed : (b : Bool) (r : Started) (e : Error) → cond b r (notStarted e) ≡ started s → (b ≡ true) × (r ≡ started s)
@@ -73,12 +63,12 @@ module _ (expected : ℕ) (s : State) where
   -- an accepted record ends with its number, which is the one expected, and its state, which is well formed, is the one
   -- that was read
   end-accepted :
-      (made : State) (left : ℕ) → acceptState expected made left ≡ started s
-      → (left ≡ 0) × (made ≡ s) × T (wellFormed made) × (made .number ≡ expected)
+      (made : State) (end size : ℕ) → acceptState expected made end size ≡ started s
+      → (end ≡ size) × (made ≡ s) × T (wellFormed made) × (made .number ≡ expected)
   unfolding acceptState acceptNumber
-  end-accepted made left p =
+  end-accepted made end size p =
       let well = passed (wellFormed made) _ _ p in
-      let q = passed (eqb left 0) _ _ (well .1) in
+      let q = passed (eqb end size) _ _ (well .1) in
       let r = passed (eqb (made .number) expected) _ _ (q .1) in
       (eqb-true _ _ (q .0), cc (r .1), rw (well .0) tt, eqb-true _ _ (r .0))
 
@@ -96,37 +86,37 @@ module _ (expected : ℕ) (s : State) where
 
   -- a number that is read is written back before what follows it
   number-back :
-      (bytes : List ℕ) → AllBytes bytes → (read : NumberRead) → readNumber bytes ≡ read → (next : ℕ → List ℕ → Started)
-      → afterNumber bytes read next ≡ started s → (value : ℕ) × (rest : List ℕ)
-      × AllBytes rest × (sevenBits value ++ rest ≡ bytes) × (next value rest ≡ started s)
+      (bytes : List ℕ) (start : ℕ) → AllBytes bytes → (read : NumberRead) → readNumber bytes start ≡ read
+      → (next : ℕ → ℕ → Started) → afterNumber start read next ≡ started s
+      → (value : ℕ) × (end : ℕ) × (sevenBits value ++ drop end bytes ≡ drop start bytes) × (next value end ≡ started s)
   unfolding afterNumber
-  number-back bytes are (number-read.Refused e) is next p = absurd (refused-is-no-start p)
-  number-back bytes are (number-read.Number value used) is next p =
-      let back : sevenBits value ++ drop used bytes ≡ bytes =
-      rw (read-written-back bytes value used are is) (take-append-drop used bytes) in
-      (value, drop used bytes, dropped-bytes used bytes are, back, p)
+  number-back bytes start are (number-read.Refused e) is next p = absurd (refused-is-no-start p)
+  number-back bytes start are (number-read.Number value used) is next p =
+      (value, start + used, read-written-back bytes start value used are is, p)
 
   -- after the positions: the current pixel, the slots and the number
   slots-written-back :
-      (header : Header) (wanted at pixel : ℕ) (bytes : List ℕ) → AllBytes bytes
-      → readSlots expected header wanted at pixel bytes ≡ started s
-      → Again (headerBytes header ++ (sevenBits wanted ++ (sevenBits at ++ (sevenBits pixel ++ bytes))))
+      (header : Header) (wanted at pixel : ℕ) (bytes : List ℕ) (start : ℕ) → AllBytes bytes
+      → readSlots expected header wanted at pixel bytes start ≡ started s
+      → Again (headerBytes header ++ (sevenBits wanted ++ (sevenBits at ++ (sevenBits pixel ++ drop start bytes))))
   unfolding readSlots recordBytes
-  slots-written-back header wanted at pixel bytes are p =
-      let q = failed (ltb (length bytes) 260) _ _ p in
-      let long = ltb-false (length bytes) 260 (q .0) in
-      let (number, rest, rest-are, back, r) =
-      number-back (drop 260 bytes) (dropped-bytes 260 bytes are) (readNumber (drop 260 bytes)) refl _ (q .1) in
-      let end = end-accepted _ (length rest) r in
-      let pixels = slots-back bytes long in
-      let whole : pixelFrom 4 bytes .rgba ++ (pixelsBytes (pixelsFrom 64 4 (drop 4 bytes)) ++ sevenBits number) ≡ bytes =
-      sym (append-assoc (pixelFrom 4 bytes .rgba) _ (sevenBits number))
-      ∙ ap₂ _++_ pixels (all-of (sevenBits number) rest (drop 260 bytes) back (end .0))
-      ∙ take-append-drop 260 bytes in
+  slots-written-back header wanted at pixel bytes start are p =
+      let whole-pixel = failed (ltb (length bytes) (start + 4)) _ _ p in
+      let whole-slots = failed (ltb (length bytes) (start + 260)) _ _ (whole-pixel .1) in
+      let long = ltb-false (length bytes) (start + 260) (whole-slots .0) in
+      let (number, last, back, r) = number-back bytes (start + 260) are (readNumber bytes (start + 260)) refl _ (whole-slots .1) in
+      let end = end-accepted _ last (length bytes) r in
+      let rest = drop start bytes in
+      let pixels : pixelFrom 4 rest .rgba ++ pixelsBytes (pixelsFrom 64 4 (drop (start + 4) bytes)) ≡ take 260 rest =
+      rw (← drop-drop 4 start bytes) (slots-back rest (omega (arith, length-drop start bytes))) in
+      let number-ends : sevenBits number ≡ drop 260 rest =
+      rw (drop-drop 260 start bytes) (sym (append-nil (sevenBits number)) ∙ rw (drop-of-length-le bytes {i = last} (omega (arith, end .0))) at back) in
+      let whole : pixelFrom 4 rest .rgba ++ (pixelsBytes (pixelsFrom 64 4 (drop (start + 4) bytes)) ++ sevenBits number) ≡ rest =
+      sym (append-assoc (pixelFrom 4 rest .rgba) _ (sevenBits number)) ∙ ap₂ _++_ pixels number-ends ∙ take-append-drop 260 rest in
       let well = rw (end .1) at (end .2) in
       let size : length (s .place .current .rgba ++ pixelsBytes (s .place .slots)) ≡ 260 =
       ap (λ (t : State). length (t .place .current .rgba ++ pixelsBytes (t .place .slots))) (sym (end .1))
-      ∙ ap length pixels ∙ simp length-take (omega arith) in
+      ∙ ap length pixels ∙ simp length-take (omega (arith, length-drop start bytes)) in
       record {
         same = ap recordBytes (sym (end .1)) ∙ rw whole;
         well = well;
@@ -136,28 +126,27 @@ module _ (expected : ℕ) (s : State) where
 
   -- after wanted: the positions are written back
   positions-written-back :
-      (header : Header) (wanted : ℕ) (bytes : List ℕ) → AllBytes bytes
-      → (read : ChannelsRead) → channelsFrom wanted ≡ read → readPositions expected header read bytes ≡ started s
-      → Again (headerBytes header ++ (sevenBits wanted ++ bytes))
+      (header : Header) (wanted : ℕ) (bytes : List ℕ) (start : ℕ) → AllBytes bytes
+      → (read : ChannelsRead) → channelsFrom wanted ≡ read → readPositions expected header read bytes start ≡ started s
+      → Again (headerBytes header ++ (sevenBits wanted ++ drop start bytes))
   unfolding readPositions
-  positions-written-back header wanted bytes are (channels-read.Refused e) is p = absurd (refused-is-no-start p)
-  positions-written-back header wanted bytes are (channels-read.Ok channels) is p =
-      let (at, rest, rest-are, at-back, q) = number-back bytes are (readNumber bytes) refl _ p in
-      let (pixel, slots, slots-are, pixel-back, r) = number-back rest rest-are (readNumber rest) refl _ q in
-      rw (← at-back, ← pixel-back, ← channels-number wanted channels is) (slots-written-back header _ at pixel slots slots-are r)
+  positions-written-back header wanted bytes start are (channels-read.Refused e) is p = absurd (refused-is-no-start p)
+  positions-written-back header wanted bytes start are (channels-read.Ok channels) is p =
+      let (at, next, at-back, q) = number-back bytes start are (readNumber bytes start) refl _ p in
+      let (pixel, last, pixel-back, r) = number-back bytes next are (readNumber bytes next) refl _ q in
+      rw (← at-back, ← pixel-back, ← channels-number wanted channels is) (slots-written-back header _ at pixel bytes last are r)
 
   -- after the header: wanted is written back
   wanted-written-back :
       (bytes : List ℕ) → AllBytes bytes → (read : HeaderRead) → headerOf bytes ≡ read
-      → readWanted expected read (drop 14 bytes) ≡ started s → Again bytes
+      → readWanted expected read bytes ≡ started s → Again bytes
   unfolding readWanted
   wanted-written-back bytes are (header-read.Refused e) is p = absurd (refused-is-no-start p)
   wanted-written-back bytes are (header-read.Ok header) is p =
-      let after = dropped-bytes 14 bytes are in
-      let (wanted, rest, rest-are, wanted-back, q) = number-back (drop 14 bytes) after _ refl _ p in
+      let (wanted, next, wanted-back, q) = number-back bytes 14 are (readNumber bytes 14) refl _ p in
       again-by _ bytes
       (rw (wanted-back, header-written-back bytes are header is) (take-append-drop 14 bytes))
-      (positions-written-back header wanted rest rest-are (channelsFrom wanted) refl q)
+      (positions-written-back header wanted bytes next are (channelsFrom wanted) refl q)
 
 -- a record that is accepted
 module _ (expected : ℕ) (bytes : List ℕ) (are : AllBytes bytes) (s : State) (p : readRecord expected bytes ≡ started s) where

@@ -1,5 +1,5 @@
--- Laws of the record: reading what was written gives the same state, or 12 under another number, and a record is 278 to
--- 300 bytes.
+-- Laws of the record: reading what was written gives the same state, or 12 under another number, and with more bytes
+-- after it 9 where they begin; a record is 278 to 300 bytes.
 -- Assumes nothing.
 use mathlib.Core.Path.{_≡_, refl, sym, _∙_, ap, ap₂}
 use mathlib.Core.Bool.{Bool, true, false, cond, _||_}
@@ -8,10 +8,10 @@ use Prim.Native.Nat.{ℕ, suc, _+_, _-_, _*_, _^_, _≤_, _<_}
 use native.Mathlib.Omega.{arith}
 use borrow.Author.Tests.{eqb-true, eq-eqb, ne-eqb, le-ltb}
 use lib.Dec.{T, eqb, eqb→eq, leb→le}
-use lib.ListN.{length, getD, drop, length-append}
-use lib.Seq.{drop-at}
+use lib.ListN.{length, getD, drop, length-append, length-drop}
+use lib.Seq.{drop-at, drop-drop}
 use Rattle.pixel.specs.declared.error.Error.{Error}
-use Rattle.pixel.specs.declared.error.Error.the-variants.{OtherMessage}
+use Rattle.pixel.specs.declared.error.Error.the-variants.{BadState, OtherMessage}
 use Rattle.pixel.specs.declared.Pixel.{Pixel}
 use Rattle.pixel.specs.declared.types.ChannelsRead.the-variants as channels-read
 use Rattle.pixel.specs.declared.types.Channels.{Channels}
@@ -19,7 +19,8 @@ use Rattle.pixel.specs.declared.types.Channels.the-variants.{Rgb, Rgba}
 use Rattle.pixel.specs.Colour.{clearPixel}
 use Rattle.pixel.specs.Types.{channelsNumber, channelsFrom}
 use Rattle.number.specs.Seven.{sevenBits, readNumber}
-use Rattle.header.specs.Header.{headerBytes, pixelCount}
+use Rattle.header.specs.declared.HeaderRead.the-variants as header-read
+use Rattle.header.specs.Header.{headerBytes, headerOf, pixelCount}
 use Rattle.number.proofs.Laws.{read-written, rest-after-written, length-at-least-one, length-at-most-ten, length-one, length-at-most-five}
 use Rattle.header.proofs.Laws.{is-true, both, pixels-small, header-read-back, header-length}
 use Rattle.pixel.specs.Bytes.{pixelFrom, pixelsFrom}
@@ -145,12 +146,16 @@ module _ (s : State) (well : T (wellFormed s)) where
       simp (length-append, header-length (s .header))
       (omega (arith, simp length-append at whole, length-one (s .wanted) wanted-small, length-at-least-one (s .place .at), length-at-most-ten (s .place .at), length-at-least-one (s .place .pixel), length-at-most-five (s .place .pixel) pixel-small, length-at-least-one (s .number), length-at-most-ten (s .number)))
 
--- a number at the end is read, and nothing is left
-number-ends :
-    (n : ℕ) → n < 2 ^ 64 → (next : ℕ → List ℕ → Started) → afterNumber (sevenBits n) (readNumber (sevenBits n)) next ≡ next n []
+-- a number that stands somewhere is read there, and what follows starts where it ends
+number-there :
+    (n start : ℕ) (bytes rest : List ℕ) → drop start bytes ≡ sevenBits n ++ rest → n < 2 ^ 64
+    → (next : ℕ → ℕ → Started) → afterNumber start (readNumber bytes start) next ≡ next n (start + length (sevenBits n))
 unfolding afterNumber
-number-ends n fits next =
-    rw (← append-nil (sevenBits n)) (rw (read-written n [] fits, rest-after-written n))
+number-there n start bytes rest stands fits next = rw (read-written n start bytes rest stands fits)
+
+-- the bytes that stand at an offset, and those before it, are all
+length-there : (start : ℕ) (bytes part : List ℕ) → drop start bytes ≡ part → 1 ≤ length part → length bytes ≡ start + length part
+length-there start bytes part stands some = omega (arith, length-drop start bytes, ap length stands)
 
 module _ (s : State) (typed : Typed s) (well : T (wellFormed s)) where
   -- each slot has four bytes
@@ -179,35 +184,76 @@ module _ (s : State) (typed : Typed s) (well : T (wellFormed s)) where
   left-back : pixelCount (s .header) - s .place .pixel ≡ s .left
   left-back = omega (arith, adds-up s well)
 
-  -- the current pixel, the slots and the number are read back
+  -- where the current pixel, the slots and the number stand, with some bytes after them, they are read back
   slots-read :
-      (expected : ℕ)
-      → readSlots expected (s .header) (s .wanted) (s .place .at) (s .place .pixel)
-      (s .place .current .rgba ++ (pixelsBytes (s .place .slots) ++ sevenBits (s .number))) ≡ acceptNumber expected s
-  unfolding readSlots acceptState
-  slots-read expected =
-      let bytes = s .place .current .rgba ++ (pixelsBytes (s .place .slots) ++ sevenBits (s .number)) in
-      let long : 260 ≤ length bytes = simp length-append (omega (arith, simp length-append at slots-length)) in
-      rw (le-ltb (length bytes) 260 long, four-read (s .place .current .rgba) (pixelsBytes (s .place .slots) ++ sevenBits (s .number)) (typed .current-is), slots-back (sevenBits (s .number)), rest-back (sevenBits (s .number)))
-      (number-ends (s .number) (typed .number-fits) _ ∙ rw (left-back, is-true (wellFormed s) well))
+      (expected start : ℕ) (bytes extra : List ℕ)
+      → drop start bytes ≡ s .place .current .rgba ++ (pixelsBytes (s .place .slots) ++ (sevenBits (s .number) ++ extra))
+      → readSlots expected (s .header) (s .wanted) (s .place .at) (s .place .pixel) bytes start
+      ≡ acceptState expected s (start + 260 + length (sevenBits (s .number))) (length bytes)
+  unfolding readSlots
+  slots-read expected start bytes extra stands =
+      let rest = sevenBits (s .number) ++ extra in
+      let size : length (s .place .current .rgba ++ (pixelsBytes (s .place .slots) ++ rest)) ≡ 260 + length rest =
+      simp length-append (omega (arith, simp length-append at slots-length)) in
+      let long : length bytes ≡ start + (260 + length rest) = length-there start bytes _ stands (omega (arith, size)) ∙ rw size in
+      let number-stands : drop (start + 260) bytes ≡ rest =
+      sym (drop-drop 260 start bytes) ∙ ap (drop 260) stands ∙ rest-back rest in
+      let slots-stand : drop (start + 4) bytes ≡ drop 4 (s .place .current .rgba ++ (pixelsBytes (s .place .slots) ++ rest)) =
+      sym (drop-drop 4 start bytes) ∙ ap (drop 4) stands in
+      rw (le-ltb (length bytes) (start + 4) (omega arith), le-ltb (length bytes) (start + 260) (omega arith), stands, slots-stand, four-read (s .place .current .rgba) (pixelsBytes (s .place .slots) ++ rest) (typed .current-is), slots-back rest, left-back)
+      (number-there (s .number) (start + 260) bytes extra number-stands (typed .number-fits) _)
 
   -- the positions after wanted are read back
-  positions-read : (expected : ℕ) (c : Channels) → channelsNumber c ≡ s .wanted →
-      readPositions expected (s .header) (channels-read.Ok c)
-      (sevenBits (s .place .at) ++ (sevenBits (s .place .pixel) ++ (s .place .current .rgba ++ (pixelsBytes (s .place .slots) ++ sevenBits (s .number)))))
-      ≡ acceptNumber expected s
-  unfolding readPositions afterNumber
-  positions-read expected c same =
-      rw (read-written (s .place .at) _ (typed .at-fits), rest-after-written (s .place .at), read-written (s .place .pixel) _ (omega (arith, pixel-small s well)), rest-after-written (s .place .pixel), same)
-      (slots-read expected)
+  positions-read :
+      (expected start : ℕ) (bytes extra : List ℕ) (c : Channels) → channelsNumber c ≡ s .wanted
+      → drop start bytes ≡ sevenBits (s .place .at) ++ (sevenBits (s .place .pixel) ++ (s .place .current .rgba ++ (pixelsBytes (s .place .slots) ++ (sevenBits (s .number) ++ extra))))
+      → readPositions expected (s .header) (channels-read.Ok c) bytes start
+      ≡ acceptState expected s
+      (start + length (sevenBits (s .place .at)) + length (sevenBits (s .place .pixel)) + 260 + length (sevenBits (s .number)))
+      (length bytes)
+  unfolding readPositions
+  positions-read expected start bytes extra c same stands =
+      let pixel-stands = rest-after-written (s .place .at) start bytes _ stands in
+      let slots-stand = rest-after-written (s .place .pixel) (start + length (sevenBits (s .place .at))) bytes _ pixel-stands in
+      number-there (s .place .at) start bytes _ stands (typed .at-fits) _
+      ∙ number-there (s .place .pixel) _ bytes _ pixel-stands (omega (arith, pixel-small s well)) _
+      ∙ rw same (slots-read expected _ bytes extra slots-stand)
+
+  -- a written record, with some bytes after it, is read up to its length
+  record-read-then :
+      (expected : ℕ) (extra : List ℕ)
+      → readRecord expected (recordBytes s ++ extra) ≡ acceptState expected s (length (recordBytes s)) (length (recordBytes s ++ extra))
+  unfolding readRecord recordBytes readWanted
+  record-read-then expected extra =
+      let count = wanted-channels (s .wanted) (formed s well .wanted-passes) in
+      let rest =
+      sevenBits (s .wanted) ++ (sevenBits (s .place .at) ++ (sevenBits (s .place .pixel) ++ (s .place .current .rgba ++ (pixelsBytes (s .place .slots) ++ (sevenBits (s .number) ++ extra))))) in
+      let joined : recordBytes s ++ extra ≡ headerBytes (s .header) ++ rest = simp append-assoc in
+      let stands : drop 14 (recordBytes s ++ extra) ≡ rest =
+      rw joined (drop-at (headerBytes (s .header)) rest 14 (header-length (s .header))) in
+      let positions-stand = rest-after-written (s .wanted) 14 (recordBytes s ++ extra) _ stands in
+      let opened : headerOf (recordBytes s ++ extra) ≡ header-read.Ok (s .header) =
+      rw joined (header-read-back (s .header) rest (typed .width-fits) (typed .height-fits) (formed s well .header-passes)) in
+      let end : 14 + length (sevenBits (s .wanted)) + length (sevenBits (s .place .at)) + length (sevenBits (s .place .pixel)) + 260 + length (sevenBits (s .number)) ≡ length (recordBytes s) =
+      simp (length-append, header-length (s .header)) (omega (arith, simp length-append at slots-length)) in
+      rw (opened, ← end)
+      (number-there (s .wanted) 14 (recordBytes s ++ extra) _ stands (omega (arith, wanted-small s well)) _
+      ∙ rw (count .1) (positions-read expected _ (recordBytes s ++ extra) extra (count .0) (count .2) positions-stand))
 
   -- a written record is read as its state where its number is the one expected; else it is 12
   pub record-read : (expected : ℕ) → readRecord expected (recordBytes s) ≡ acceptNumber expected s
-  unfolding readRecord recordBytes readWanted afterNumber
+  unfolding acceptState
   record-read expected =
-      let count = wanted-channels (s .wanted) (formed s well .wanted-passes) in
-      rw (header-read-back (s .header) _ (typed .width-fits) (typed .height-fits) (formed s well .header-passes), drop-at (headerBytes (s .header)) _ 14 (header-length (s .header)), read-written (s .wanted) _ (omega (arith, wanted-small s well)), rest-after-written (s .wanted), count .1)
-      (positions-read expected (count .0) (count .2))
+      rw (← append-nil (recordBytes s))
+      (record-read-then expected [] ∙ rw (append-nil (recordBytes s), is-true (wellFormed s) well, eq-eqb (length (recordBytes s)) (length (recordBytes s)) refl))
+
+  -- with more bytes after it, it is 9 where these begin, whichever number is expected
+  pub record-then-more :
+      (expected byte : ℕ) (more : List ℕ) → readRecord expected (recordBytes s ++ byte ∷ more) ≡ notStarted (BadState (length (recordBytes s)))
+  unfolding acceptState
+  record-then-more expected byte more =
+      record-read-then expected (byte ∷ more)
+      ∙ rw (is-true (wellFormed s) well, ne-eqb (length (recordBytes s)) (length (recordBytes s ++ byte ∷ more)) (λ e. omega (arith, e, length-append (recordBytes s) (byte ∷ more))))
 
   -- reading a written record under its number gives the same state
   pub record-read-back : readRecord (s .number) (recordBytes s) ≡ started s

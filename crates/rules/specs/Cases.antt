@@ -183,7 +183,7 @@ empty =
     -- a record
     ∷ readsBack 7 [] (refusal 1 [])
     -- a number
-    ∷ countsBack [] (refusal 1 [])
+    ∷ countsBack 0 [] (refusal 1 [])
     ∷ []
 
 -- which chunk the encoder writes for a differing pixel; the pixel before the first is (0,0,0,255)
