@@ -31,7 +31,8 @@ pub fn read(bytes: &[u8], start: usize) -> NumberRead
             used: 1,
         };
     }
-    group_below(byte, read_more(start, 8, &bytes[start + 1..]))
+    let second = start + 1;
+    group_below(byte, read_more(start, 8, &bytes[second..]))
 }
 
 // What a part says where a group with the top bit set stands before it, and `more` and one bytes may follow; the number

@@ -20,7 +20,7 @@ group-below-requires : tie.Need-group-below-requires
 group-below-requires c κs =
     let a = c .before .before .before .before .before .before .args in
     rw (c .read-more .ensures)
-    (group-fits (a .start) _ (a .bytes .now) (a .start) (omega arith) (c .before .before .if2 .left) (omega arith) (λ i h. c .before .before .before .before .before .shared-slice-known .given i .fits))
+    (group-fits _ _ (a .bytes .now) (a .start) (omega arith) (c .before .before .if2 .left) (omega arith) (λ i h. c .before .before .before .before .before .shared-slice-known .given i .fits))
 
 returns-3 : tie.Need-returns-3
 returns-3 c =
