@@ -1,5 +1,5 @@
--- The number code's laws: a written number reads back, how long it is, what a number that is read is below, and that
--- it is written back. Assumes nothing.
+-- The number code's laws: a written number reads back, cut short it is 1 where it starts, how long it is, what a number
+-- that is read is below, and that it is written back. Assumes nothing.
 use Prim.Native.Nat.{ℕ, zero, suc, _+_, _-_, _*_, _/_, _%_, _^_, _≤_, _<_}
 use mathlib.Core.Path.{_≡_, refl, sym, ap, subst, _∙_}
 use mathlib.Core.Bool.{Bool, true, false, cond}
@@ -9,11 +9,11 @@ use native.Mathlib.Numerals.{add-one}
 use native.Mathlib.Decide.{decLe}
 use native.Mathlib.Omega.{arith}
 use lib.Dec.{eqb}
-use lib.ListN.{length, take, drop, length-drop, take-append-drop}
+use lib.ListN.{length, take, drop, length-append, length-drop, take-append-drop}
 use lib.Seq.{drop-append-seam, getD-drop, drop-drop}
 use borrow.Author.Tests.{eqb-true, eqb-false, lt-ltb, le-ltb, eq-eqb, ne-eqb}
 use Rattle.pixel.specs.Bytes.{AllBytes}
-use Rattle.pixel.specs.declared.error.Error.the-variants.{BadState}
+use Rattle.pixel.specs.declared.error.Error.the-variants.{UnexpectedBufferEnd, BadState}
 use Rattle.number.specs.declared.NumberRead.{NumberRead}
 use Rattle.number.specs.declared.NumberRead.the-variants as read
 use Rattle.number.specs.Seven.{sevenBits, sevenBitsOf, readNumber, readFirst, readMore, groupBelow}
@@ -131,6 +131,35 @@ module _ (n start : ℕ) (bytes rest : List ℕ) (stands : drop start bytes ≡ 
   pub rest-after-written : drop (start + length (sevenBits n)) bytes ≡ rest
   rest-after-written = sym (drop-drop (length (sevenBits n)) start bytes) ∙ rw stands (drop-append-seam (sevenBits n) rest)
 
+-- of the bytes after the first some are missing: 1
+more-cut : (start more n k : ℕ) → 1 ≤ n → n < 2 * 128 ^ more → k < length (sevenBitsOf more n)
+    → readMore start more (take k (sevenBitsOf more n)) ≡ read.Refused (UnexpectedBufferEnd start)
+unfolding readMore sevenBitsOf groupBelow
+more-cut start more n zero some fits cut = refl
+more-cut start zero n (suc k) some fits cut = absurd (omega (arith, cut))
+more-cut start (suc more) n (suc k) some fits cut =
+    by-size n (λ low. absurd (omega (arith, cut, ap length (last-byte (suc more) n low))))
+    (λ high.
+    let fewer : k < length (sevenBitsOf more (n / 128)) = omega (arith, cut, ap length (next-byte more n high)) in
+    rw (next-byte more n high, le-ltb (128 + n % 128) 128 (omega arith), more-cut start more (n / 128) k (omega arith) (omega (arith, pow-suc 128 more)) fewer))
+
+-- of all its bytes
+first-cut : (start n k : ℕ) → n < 2 ^ 64 → k < length (sevenBits n)
+    → readFirst start (take k (sevenBits n)) ≡ read.Refused (UnexpectedBufferEnd start)
+unfolding readFirst sevenBits groupBelow
+first-cut start n zero fits cut = refl
+first-cut start n (suc k) fits cut =
+    by-size n (λ low. absurd (omega (arith, cut, ap length (last-byte 9 n low))))
+    (λ high.
+    let fewer : k < length (sevenBitsOf 8 (n / 128)) = omega (arith, cut, ap length (next-byte 8 n high)) in
+    rw (next-byte 8 n high, le-ltb (128 + n % 128) 128 (omega arith), more-cut start 8 (n / 128) k (omega arith) (omega arith) fewer))
+
+-- a number that is cut short is 1 where it starts
+pub number-cut : (n start k : ℕ) (bytes : List ℕ) → drop start bytes ≡ take k (sevenBits n) → n < 2 ^ 64 → k < length (sevenBits n)
+    → readNumber bytes start ≡ read.Refused (UnexpectedBufferEnd start)
+unfolding readNumber
+number-cut n start k bytes stands fits cut = rw stands (first-cut start n k fits cut)
+
 -- what is read lies below a limit, and took at least one and at most `most` of the bytes
 abbrev pub Within : ℕ → ℕ → List ℕ → NumberRead → Type 0
 Within limit most bytes (read.Number value used) = (value < limit) × (1 ≤ used) × (used ≤ most) × (used ≤ length bytes)
@@ -239,3 +268,10 @@ unfolding sevenBits readNumber
 read-written-back bytes start value used are e =
     let again = subst (Again 0 9 (drop start bytes)) e (first-again start (drop start bytes) (dropped-bytes start bytes are)) in
     rw (again .1, ← drop-drop used start bytes) (take-append-drop used (drop start bytes))
+
+-- it took as many bytes as it is written in
+pub read-used : (bytes : List ℕ) (start value used : ℕ) → AllBytes bytes → readNumber bytes start ≡ read.Number value used
+    → length (sevenBits value) ≡ used
+read-used bytes start value used are e =
+    let back = ap length (read-written-back bytes start value used are e) in
+    omega (arith, simp length-append at back, length-drop start bytes, length-drop (start + used) bytes, read-bounds bytes start value used are e .3)

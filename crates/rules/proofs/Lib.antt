@@ -4,6 +4,7 @@ pub mod PastingLaws
 pub mod PlaceLaws
 pub mod ReadingLaws
 pub mod RecordAgainLaws
+pub mod RecordCutLaws
 pub mod RecordLaws
 pub mod SameLaws
 pub mod StepLaws

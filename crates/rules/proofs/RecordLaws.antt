@@ -101,7 +101,7 @@ pub left-adds : (s : State) → s .place .pixel + s .left ≡ pixelCount (s .hea
 left-adds s e = rw (eq-eqb (s .place .pixel + s .left) (pixelCount (s .header)) e) tt
 
 -- wanted 3 or 4 is a channel count, and its number is wanted again
-wanted-channels : (wanted : ℕ) → T (eqb wanted 3 || eqb wanted 4) → (c : Channels) × (channelsFrom wanted ≡ channels-read.Ok c) × (channelsNumber c ≡ wanted)
+pub wanted-channels : (wanted : ℕ) → T (eqb wanted 3 || eqb wanted 4) → (c : Channels) × (channelsFrom wanted ≡ channels-read.Ok c) × (channelsNumber c ≡ wanted)
 wanted-channels wanted t = go (eqb wanted 3) refl (eqb wanted 4) refl t
   where
     go :
@@ -128,13 +128,13 @@ refused-is-no-start p = let z : _≡_ {A = ℕ} 0 1 = cc in omega arith
 
 module _ (s : State) (well : T (wellFormed s)) where
   -- the pixel position takes five bytes at most
-  pixel-small : s .place .pixel < 2 ^ 35
+  pub pixel-small : s .place .pixel < 2 ^ 35
   pixel-small =
       omega
       (arith, leb→le (s .place .pixel) (pixelCount (s .header)) (formed s well .pixel-passes), pixels-small (s .header) (formed s well .header-passes))
 
   -- wanted takes one byte
-  wanted-small : s .wanted < 128
+  pub wanted-small : s .wanted < 128
   wanted-small = omega (arith, wanted-few s well)
 
   -- a record with 260 bytes of pixels is 278 to 300 bytes
@@ -163,7 +163,7 @@ module _ (s : State) (typed : Typed s) (well : T (wellFormed s)) where
   fours i h = typed .slot-is i (omega (arith, typed .slots-are))
 
   -- the current pixel and the slots are 260 bytes
-  slots-length : length (s .place .current .rgba ++ pixelsBytes (s .place .slots)) ≡ 260
+  pub slots-length : length (s .place .current .rgba ++ pixelsBytes (s .place .slots)) ≡ 260
   slots-length =
       simp length-append
       (omega (arith, typed .current-is, typed .slots-are, pixels-length (s .place .slots) fours))
@@ -175,7 +175,7 @@ module _ (s : State) (typed : Typed s) (well : T (wellFormed s)) where
       (pixels-read (s .place .slots) rest fours)
 
   -- what follows them
-  rest-back : (rest : List ℕ) → drop 260 (s .place .current .rgba ++ (pixelsBytes (s .place .slots) ++ rest)) ≡ rest
+  pub rest-back : (rest : List ℕ) → drop 260 (s .place .current .rgba ++ (pixelsBytes (s .place .slots) ++ rest)) ≡ rest
   rest-back rest =
       ap (drop 260) (sym (append-assoc (s .place .current .rgba) (pixelsBytes (s .place .slots)) rest))
       ∙ drop-at (s .place .current .rgba ++ pixelsBytes (s .place .slots)) rest 260 slots-length

@@ -8,6 +8,7 @@ pub mod Document
 pub mod Encode
 pub mod Step
 pub mod Record
+pub mod Damage
 pub mod Strict
 pub mod Figures
 pub mod Case
