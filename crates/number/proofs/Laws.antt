@@ -1,5 +1,5 @@
 -- The number code's laws: a written number reads back, cut short it is 1 where it starts, how long it is, what a number
--- that is read is below, and that it is written back. Assumes nothing.
+-- that is read is below, that it is written back, and which refusals there are. Assumes nothing.
 use Prim.Native.Nat.{ℕ, zero, suc, _+_, _-_, _*_, _/_, _%_, _^_, _≤_, _<_}
 use mathlib.Core.Path.{_≡_, refl, sym, ap, subst, _∙_}
 use mathlib.Core.Bool.{Bool, true, false, cond}
@@ -8,7 +8,7 @@ use native.Mathlib.Nat.{pow-suc, one-le-pow, lt-of-not-le}
 use native.Mathlib.Numerals.{add-one}
 use native.Mathlib.Decide.{decLe}
 use native.Mathlib.Omega.{arith}
-use lib.Dec.{eqb}
+use lib.Dec.{eqb, ltb}
 use lib.ListN.{length, take, drop, length-append, length-drop, take-append-drop}
 use lib.Seq.{drop-append-seam, getD-drop, drop-drop}
 use borrow.Author.Tests.{eqb-true, eqb-false, lt-ltb, le-ltb, eq-eqb, ne-eqb}
@@ -275,3 +275,37 @@ pub read-used : (bytes : List ℕ) (start value used : ℕ) → AllBytes bytes �
 read-used bytes start value used are e =
     let back = ap length (read-written-back bytes start value used are e) in
     omega (arith, simp length-append at back, length-drop start bytes, length-drop (start + used) bytes, read-bounds bytes start value used are e .3)
+
+-- what reading a number that starts at an offset of a part of some size answers: a number, or 1 or 9 with that offset
+pub data ReadAt (start size : ℕ) : NumberRead → Type 0 where
+  is-read : (value used : ℕ) → ReadAt start size (read.Number value used)
+  is-cut : ReadAt start size (read.Refused (UnexpectedBufferEnd start))
+  is-bad : start < size → ReadAt start size (read.Refused (BadState start))
+
+-- a group below it keeps it so
+group-at : (start size byte : ℕ) (after : NumberRead) → ReadAt start size after → ReadAt start size (groupBelow byte after)
+unfolding groupBelow
+group-at start size byte _ (is-read value used) = is-read _ _
+group-at start size byte _ is-cut = is-cut
+group-at start size byte _ (is-bad inside) = is-bad inside
+
+more-at : (start size more : ℕ) (bytes : List ℕ) → start < size → ReadAt start size (readMore start more bytes)
+unfolding readMore
+more-at start size more [] inside = is-cut
+more-at start size zero (byte ∷ rest) inside = either-read (ReadAt start size) (eqb byte 1) _ _ (is-read _ _) (is-bad inside)
+more-at start size (suc more) (byte ∷ rest) inside =
+    either-read (ReadAt start size) (ltb byte 128) _ _
+    (either-read (ReadAt start size) (eqb byte 0) _ _ (is-bad inside) (is-read _ _))
+    (group-at start size byte (readMore start more rest) (more-at start size more rest inside))
+
+first-at : (start size : ℕ) (bytes : List ℕ) → start + length bytes ≤ size → ReadAt start size (readFirst start bytes)
+unfolding readFirst
+first-at start size [] fits = is-cut
+first-at start size (byte ∷ rest) fits =
+    either-read (ReadAt start size) (ltb byte 128) _ _ (is-read _ _)
+    (group-at start size byte (readMore start 8 rest) (more-at start size 8 rest (omega (arith, fits))))
+
+-- a number is refused with 1 or 9 alone, and with the offset at which it starts
+pub number-at : (bytes : List ℕ) (start : ℕ) → start ≤ length bytes → ReadAt start (length bytes) (readNumber bytes start)
+unfolding readNumber
+number-at bytes start inside = first-at start (length bytes) (drop start bytes) (omega (arith, inside, length-drop start bytes))

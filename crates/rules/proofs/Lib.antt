@@ -6,6 +6,7 @@ pub mod ReadingLaws
 pub mod RecordAgainLaws
 pub mod RecordCutLaws
 pub mod RecordLaws
+pub mod RecordToldLaws
 pub mod SameLaws
 pub mod StepLaws
 pub mod StuckLaws
