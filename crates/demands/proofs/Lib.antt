@@ -4,6 +4,7 @@ pub mod Course
 pub mod Held
 pub mod TakeOver
 pub mod Broker
+pub mod Damaged
 pub mod Partly
 pub mod Workers
 pub mod Flushing

@@ -1,7 +1,7 @@
 -- Demand 3 for hosts, proved: a host's history is one of `demands`, so it ends as pivotshade_decode.
 -- Assumes nothing.
 use mathlib.Core.Path.{_≡_, refl, sym, _∙_, ap}
-use mathlib.Core.List.{List}
+use mathlib.Core.List.{List, _∷_, _++_}
 use Prim.Native.Nat.{ℕ, _+_, _^_, _≤_, _<_}
 use native.Mathlib.Omega.{arith}
 use borrow.Author.Tests.{le-ltb}
@@ -24,6 +24,7 @@ use Rattle.rules.specs.Decode.{decoder, decoding}
 use Rattle.rules.specs.Figures.{answerFigures}
 use Rattle.rules.specs.Step.{State, wellFormed, Started, started, notStarted, startWanted, startHeader, starting, Ran, going, ended, outputOf, running}
 use Rattle.rules.specs.Record.{Recorded, recorded, notRecorded, recording, recordedOver, recordBytes, readRecord}
+use Rattle.rules.specs.Damage.{cutOffset}
 use Rattle.rules.proofs.RecordLaws.{record-length}
 use Rattle.rules.proofs.RecordAgainLaws.{record-written-back, record-well-formed, record-short}
 use Rattle.demands.specs.TakeOver.{bytesBefore, Life, begun, taken-up, stepsLeft}
@@ -31,11 +32,12 @@ use Rattle.demands.specs.Broker.{Broker}
 use Rattle.demands.specs.Inside.{StoppedInside}
 use Rattle.demands.proofs.TakeOver.{reached-readable, reached-taken, reached-well-formed, reached-adds-up, enough-steps, run-lives, run-ends-as-uncut}
 use Rattle.demands.proofs.Broker.{any-checkpoint, another-message}
+use Rattle.demands.proofs.Damaged.{cut-checkpoint, longer-checkpoint}
 use Rattle.demands.proofs.Steps.{run-keeps-before, run-further}
 use Rattle.demands.proofs.Inside.{inside-keeps-before}
 use Rattle.demands.proofs.Written.{written-record}
 use Rattle.qoi.specs.Hosted.{startedFigures, startedOver, recordedFigures, ranFigures, ranNext, hostFigures, hostOut, hostNext}
-use Rattle.promises.specs.Hosts.{says, returned, recordRoom, Host, starts, runs, takes-over, EndsAsDecode, TakesOver, Starts, TestsRecord, RefusesAnother}
+use Rattle.promises.specs.Hosts.{says, returned, recordRoom, Host, starts, runs, takes-over, EndsAsDecode, TakesOver, Starts, TestsRecord, RefusesRecord}
 
 -- what refuses a start refuses the decode
 refused-start :
@@ -249,19 +251,44 @@ record-alone m number r o next are roomy =
     stays (started s) = refl
     stays (notStarted e) = refl
 
--- a host on another message than the one that its record is of gets 12, with that one's number, and nothing changes
-pub host-another-message :
-    {m : List ℕ} {number w : ℕ} {r o b : List ℕ} → Host m number w r o b
-    → (m′ : List ℕ) (other : ℕ) → (number ≡ other → ⊥) → RefusesAnother m′ other r number
-host-another-message {number = number} {r = r} host m′ other differs =
-    let l = lives host in
-    let refuses : readRecord other r ≡ notStarted (OtherMessage number) =
-    ap (readRecord other) (l .is) ∙ another-message (l .life) other differs in
+-- bytes that are not read change nothing
+refuses-record : (m : List ℕ) (number : ℕ) (r : List ℕ) (e : Error) → readRecord number r ≡ notStarted e → RefusesRecord m number r e
+refuses-record m number r e refuses =
     record {
       figures-are = λ steps o next. rw refuses;
       output-stays = λ steps o. rw refuses;
       next-stays = λ steps o next. rw refuses;
     }
+
+-- a host on another message than the one that its record is of gets 12, with that one's number, and nothing changes
+pub host-another-message :
+    {m : List ℕ} {number w : ℕ} {r o b : List ℕ} → Host m number w r o b
+    → (m′ : List ℕ) (other : ℕ) → (number ≡ other → ⊥) → RefusesRecord m′ other r (OtherMessage number)
+host-another-message {r = r} host m′ other differs =
+    let l = lives host in
+    refuses-record m′ other r _ (ap (readRecord other) (l .is) ∙ another-message (l .life) other differs)
+
+-- of a record that is cut off after n bytes it gets 1, with the offset of the field that is cut
+pub host-cut-record :
+    {m : List ℕ} {number w : ℕ} {r o b : List ℕ} → Host m number w r o b → (s : State) → readRecord number r ≡ started s
+    → (m′ : List ℕ) (expected n : ℕ) → n < length r → RefusesRecord m′ expected (take n r) (UnexpectedBufferEnd (cutOffset s n))
+host-cut-record {r = r} host s is m′ expected n short =
+    let l = lives host in
+    let same : l .state ≡ s = cc (l .reads) in
+    let life = rw same at (l .life) in
+    let of-state : r ≡ recordBytes s = l .is ∙ ap recordBytes same in
+    refuses-record m′ expected (take n r) _
+    (ap (λ (bytes : List ℕ). readRecord expected (take n bytes)) of-state
+    ∙ cut-checkpoint life expected n (rw of-state at short))
+
+-- and of one with more bytes after it 9, with the offset at which these begin
+pub host-longer-record :
+    {m : List ℕ} {number w : ℕ} {r o b : List ℕ} → Host m number w r o b
+    → (m′ : List ℕ) (expected byte : ℕ) (more : List ℕ) → RefusesRecord m′ expected (r ++ byte ∷ more) (BadState (length r))
+host-longer-record {r = r} host m′ expected byte more =
+    let l = lives host in
+    refuses-record m′ expected (r ++ byte ∷ more) _
+    (rw (l .is) (longer-checkpoint (l .life) expected byte more))
 
 -- a host to which m was delivered hands in, under m's number, some host's record of any message m′ that was ever
 -- delivered: if it is read, it ends as pivotshade_decode of m

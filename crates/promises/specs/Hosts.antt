@@ -5,7 +5,6 @@ use mathlib.Core.Path.{_≡_}
 use Prim.Native.Nat.{ℕ, _+_, _^_, _≤_, _<_}
 use lib.ListN.{length, getD, take}
 use Rattle.pixel.specs.declared.error.Error.{Error}
-use Rattle.pixel.specs.declared.error.Error.the-variants.{OtherMessage}
 use Rattle.rules.specs.Bytes.{writtenOver}
 use Rattle.rules.specs.Decode.{decoding}
 use Rattle.rules.specs.Figures.{answerFigures, refusalFigures}
@@ -98,10 +97,9 @@ pub record TestsRecord (m : List ℕ) (number : ℕ) (r o next : List ℕ) : Typ
       → (hostFigures m 0 o next (readRecord number r) ≡ says 256 (length r))
       × (hostNext m 0 o next (readRecord number r) ≡ writtenOver r next)
 
--- a run of message m under its number refuses record r with 12 and the number `found` in it, and changes nothing
-pub record RefusesAnother (m : List ℕ) (number : ℕ) (r : List ℕ) (found : ℕ) : Type 0 where
+-- a run of message m under its number refuses record r with e, and changes nothing
+pub record RefusesRecord (m : List ℕ) (number : ℕ) (r : List ℕ) (e : Error) : Type 0 where
   pub figures-are :
-      (steps : ℕ) (o next : List ℕ)
-      → hostFigures m steps o next (readRecord number r) ≡ refusalFigures (OtherMessage found)
+      (steps : ℕ) (o next : List ℕ) → hostFigures m steps o next (readRecord number r) ≡ refusalFigures e
   pub output-stays : (steps : ℕ) (o : List ℕ) → hostOut m steps o (readRecord number r) ≡ o
   pub next-stays : (steps : ℕ) (o next : List ℕ) → hostNext m steps o next (readRecord number r) ≡ next

@@ -5,14 +5,13 @@ use mathlib.Core.Bool.{Bool, true, false, cond}
 use mathlib.Core.List.{List, [], _∷_, _++_, append-nil}
 use Prim.Native.Nat.{ℕ, zero, suc, _+_, _-_, _^_, _≤_, _<_}
 use native.Mathlib.Omega.{arith}
-use borrow.Author.Tests.{ltb-true, ltb-false, lt-ltb, le-ltb}
+use borrow.Author.Tests.{ltb-true, ltb-false}
 use lib.Dec.{T, ltb}
 use lib.ListN.{length, take, drop, length-append, length-take}
 use lib.Seq.{take-nil, take-append-le, take-append-add, drop-at, drop-drop}
 use Rattle.pixel.specs.declared.error.Error.the-variants.{UnexpectedBufferEnd}
 use Rattle.pixel.specs.declared.types.ChannelsRead.the-variants as channels-read
 use Rattle.pixel.specs.declared.types.Channels.{Channels}
-use Rattle.pixel.specs.Refusal.{endedEarly}
 use Rattle.pixel.specs.Types.{channelsNumber}
 use Rattle.number.specs.Seven.{sevenBits, readNumber}
 use Rattle.number.proofs.Laws.{read-written, number-cut, rest-after-written}

@@ -1,7 +1,7 @@
 -- Laws of what a refused record is told: which refusals there are, where 1 and 9 point, and that the fields stand where a
 -- fault of state is told.
 -- Assumes nothing.
-use mathlib.Core.Path.{_≡_, refl, sym}
+use mathlib.Core.Path.{_≡_, refl}
 use mathlib.Core.Bool.{Bool, true, false, cond}
 use mathlib.Core.List.{List}
 use Prim.Native.Nat.{ℕ, _+_, _≤_, _<_}
@@ -18,7 +18,7 @@ use Rattle.pixel.specs.declared.types.ColorSpaceRead.the-variants as colorspace
 use Rattle.pixel.specs.declared.types.ColorSpace.{ColorSpace}
 use Rattle.pixel.specs.declared.types.ColorSpace.the-variants.{Srgb, Linear}
 use Rattle.pixel.specs.Bytes.{AllBytes}
-use Rattle.pixel.specs.Types.{channelsNumber, channelsFrom, colorSpaceFrom}
+use Rattle.pixel.specs.Types.{channelsNumber, channelsFrom}
 use Rattle.number.specs.declared.NumberRead.{NumberRead}
 use Rattle.number.specs.declared.NumberRead.the-variants as number-read
 use Rattle.number.specs.Seven.{sevenBits, readNumber}
@@ -27,8 +27,7 @@ use Rattle.header.specs.declared.Header.{Header}
 use Rattle.header.specs.declared.HeaderRead.{HeaderRead}
 use Rattle.header.specs.declared.HeaderRead.the-variants as header-read
 use Rattle.header.specs.Header.{numberAt, magicNumber, dimensionsFit, headerFrom, afterColorSpace, afterChannels, headerOf}
-use Rattle.header.proofs.Laws.{channels-number}
-use Rattle.rules.specs.Step.{State, atPasses, pixelPasses, wellFormed, Started, started, notStarted}
+use Rattle.rules.specs.Step.{State, atPasses, pixelPasses, wellFormed, Started}
 use Rattle.rules.specs.Record.{afterNumber, atOffset, pixelOffset, currentOffset, faultOffset, acceptNumber, acceptState, readSlots, readPositions, readWanted, readRecord}
 use Rattle.rules.specs.Damage.{Told, taken, header-cut, field-cut, channels-bad, color-space-bad, magic-bad, dimensions-bad, field-bad, of-another}
 
