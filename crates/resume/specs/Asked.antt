@@ -11,14 +11,15 @@ use Rattle.rules.specs.Reading.{sizeWanted}
 use Rattle.rules.specs.Step.{State, wellFormed, Started}
 use Rattle.rules.specs.Record.{afterNumber, readSlots}
 
--- a record from its pixel position on
-abbrev pub fromPixel : ℕ → Header → ℕ → ℕ → List ℕ → Started
-fromPixel expected header wanted at bytes =
-    afterNumber bytes (readNumber bytes) (λ pixel rest. readSlots expected header wanted at pixel rest)
+-- a record from its pixel position on, which starts at an offset
+abbrev pub fromPixel : ℕ → Header → ℕ → List ℕ → ℕ → ℕ → Started
+fromPixel expected header wanted bytes at start =
+    afterNumber start (readNumber bytes start) (λ pixel last. readSlots expected header wanted at pixel bytes last)
 
 -- a record from its byte position on
-abbrev pub fromAt : ℕ → Header → ℕ → List ℕ → Started
-fromAt expected header wanted bytes = afterNumber bytes (readNumber bytes) (fromPixel expected header wanted)
+abbrev pub fromAt : ℕ → Header → ℕ → List ℕ → ℕ → Started
+fromAt expected header wanted bytes start =
+    afterNumber start (readNumber bytes start) (fromPixel expected header wanted bytes)
 
 -- wanted is 3 or 4
 abbrev pub WantedFits : ℕ → Type 0

@@ -95,7 +95,7 @@ impl Decoder {
     {
         match Header::decode(record) {
             HeaderRead::Refused(e) => start::refused(self, e),
-            HeaderRead::Ok(header) => read_record::read_wanted(self, number, header, &record[14..]),
+            HeaderRead::Ok(header) => read_record::read_wanted(self, number, header, record),
         }
     }
 

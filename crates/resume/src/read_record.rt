@@ -1,12 +1,12 @@
-// Reading a record, left to right: each part answers its own refusals and hands the rest to the next. The number that
-// the message is expected to have goes with it.
+// Reading a record, left to right: each part answers its own refusals, with the offset of the field that is cut or has
+// the fault, and hands on where the next part starts. The number that the message is expected to have goes with it.
 ghost use mathlib.Core.Path.{_≡_};
 ghost use Prim.Native.Nat.{_+_, _-_, _≤_};
 ghost use lib.ListN.{length, drop};
 ghost use Rattle.header.specs.declared.HeaderRead.the-variants as headerRead;
 ghost use Rattle.header.specs.Header.{pixelCount};
 ghost use Rattle.pixel.specs.Bytes.{pixelFrom, pixelsFrom};
-ghost use Rattle.rules.specs.Record.{readWanted, readPositions, readSlots, acceptState, acceptNumber};
+ghost use Rattle.rules.specs.Record.{readWanted, readPositions, readSlots, acceptState, faultOffset, acceptNumber};
 ghost use Rattle.resume.specs.Asked.{fromAt, fromPixel};
 ghost use Rattle.resume.specs.State.{stateOf, Answers};
 use crate::Decoder;
@@ -18,6 +18,7 @@ use crate::well_formed;
 use header::Header;
 use number::NumberRead;
 use pixel::Pixel;
+use pixel::consts::QOI_HEADER_SIZE;
 use pixel::error::Error;
 use pixel::types::Channels;
 use pixel::types::ChannelsRead;
@@ -26,14 +27,15 @@ use pixel::types::ChannelsRead;
 pub fn read_wanted(old: Decoder, expected: u64, header: Header, bytes: &[u8]) -> Started
     ensures { λ r. ⌜ Answers (readWanted expected (headerRead.Ok header) (now (bytes .entry))) old r ⌝ }
 {
-    match number::read(bytes) {
+    match number::read(bytes, QOI_HEADER_SIZE) {
         NumberRead::Refused(e) => start::refused(old, e),
         NumberRead::Number { value, used } => read_positions(
             old,
             expected,
             header,
             Channels::try_from(value),
-            &bytes[used..],
+            bytes,
+            QOI_HEADER_SIZE + used,
         ),
     }
 }
@@ -45,8 +47,9 @@ fn read_positions(
     header: Header,
     wanted: ChannelsRead,
     bytes: &[u8],
+    start: usize,
 ) -> Started
-    ensures { λ r. ⌜ Answers (readPositions expected header wanted (now (bytes .entry))) old r ⌝ }
+    ensures { λ r. ⌜ Answers (readPositions expected header wanted (now (bytes .entry)) start) old r ⌝ }
 {
     match wanted {
         ChannelsRead::Refused(e) => start::refused(old, e),
@@ -56,6 +59,7 @@ fn read_positions(
             header,
             channels.as_u8() as u64,
             bytes,
+            start,
         ),
     }
 }
@@ -67,14 +71,15 @@ fn read_byte_position(
     header: Header,
     wanted: u64,
     bytes: &[u8],
+    start: usize,
 ) -> Started
-    ensures { λ r. ⌜ Answers (fromAt expected header wanted (now (bytes .entry))) old r ⌝ }
+    ensures { λ r. ⌜ Answers (fromAt expected header wanted (now (bytes .entry)) start) old r ⌝ }
 {
-    match number::read(bytes) {
+    match number::read(bytes, start) {
         NumberRead::Refused(e) => start::refused(old, e),
         NumberRead::Number { value, used } => {
             let at = value as usize;
-            read_pixel_position(old, expected, header, wanted, at, &bytes[used..])
+            read_pixel_position(old, expected, header, wanted, at, bytes, start + used)
         }
     }
 }
@@ -87,14 +92,24 @@ fn read_pixel_position(
     wanted: u64,
     at: usize,
     bytes: &[u8],
+    start: usize,
 ) -> Started
-    ensures { λ r. ⌜ Answers (fromPixel expected header wanted at (now (bytes .entry))) old r ⌝ }
+    ensures { λ r. ⌜ Answers (fromPixel expected header wanted (now (bytes .entry)) at start) old r ⌝ }
 {
-    match number::read(bytes) {
+    match number::read(bytes, start) {
         NumberRead::Refused(e) => start::refused(old, e),
         NumberRead::Number { value, used } => {
             let pixel = value as usize;
-            read_slots(old, expected, header, wanted, at, pixel, &bytes[used..])
+            read_slots(
+                old,
+                expected,
+                header,
+                wanted,
+                at,
+                pixel,
+                bytes,
+                start + used,
+            )
         }
     }
 }
@@ -108,17 +123,23 @@ fn read_slots(
     at: usize,
     pixel: usize,
     bytes: &[u8],
+    start: usize,
 ) -> Started
-    ensures { λ r. ⌜ Answers (readSlots expected header wanted at pixel (now (bytes .entry))) old r ⌝ }
+    requires { ⌜ start ≤ length (now bytes) ⌝ }
+    ensures { λ r. ⌜ Answers (readSlots expected header wanted at pixel (now (bytes .entry)) start) old r ⌝ }
 {
-    if bytes.len() < 260 {
-        return start::refused(old, Error::UnexpectedBufferEnd);
+    let left = bytes.len() - start;
+    if left < 4 {
+        return start::refused(old, Error::UnexpectedBufferEnd { at: start });
     }
-    match number::read(&bytes[260..]) {
+    if left < 260 {
+        return start::refused(old, Error::UnexpectedBufferEnd { at: start + 4 });
+    }
+    match number::read(bytes, start + 260) {
         NumberRead::Refused(e) => start::refused(old, e),
         NumberRead::Number { value, used } => {
-            let current = pixel_at(bytes, 0);
-            let slots = slots_from(&bytes[4..]);
+            let current = pixel_at(bytes, start);
+            let slots = slots_from(&bytes[start + 4..]);
             let decoder = Decoder {
                 header,
                 wanted,
@@ -129,7 +150,7 @@ fn read_slots(
                 slots,
                 number: value,
             };
-            accept(old, expected, decoder, bytes.len() - 260 - used)
+            accept(old, expected, decoder, start + 260 + used, bytes.len())
         }
     }
 }
@@ -145,17 +166,38 @@ fn left_from(header: Header, pixel: usize) -> usize
     pixels - pixel
 }
 
-// The faults of state, then bytes after the number.
-fn accept(old: Decoder, expected: u64, decoder: Decoder, extra: usize) -> Started
-    ensures { λ r. ⌜ Answers (acceptState expected (stateOf decoder) extra) old r ⌝ }
+// The faults of state, then bytes after the number, which ends at `end` in a record of this size.
+fn accept(old: Decoder, expected: u64, decoder: Decoder, end: usize, size: usize) -> Started
+    ensures { λ r. ⌜ Answers (acceptState expected (stateOf decoder) end size) old r ⌝ }
 {
     if !well_formed::well_formed(decoder) {
-        return start::refused(old, Error::BadState);
+        return start::refused(
+            old,
+            Error::BadState {
+                at: fault_offset(decoder),
+            },
+        );
     }
-    if extra != 0 {
-        return start::refused(old, Error::BadState);
+    if end != size {
+        return start::refused(old, Error::BadState { at: end });
     }
     accept_number(old, expected, decoder)
+}
+
+// Where the record has the first field with a fault of state: byte position, pixel position, or else the current pixel.
+fn fault_offset(decoder: Decoder) -> usize
+    ensures { λ r. ⌜ r ≡ faultOffset (stateOf decoder) ⌝ }
+{
+    let at_offset = QOI_HEADER_SIZE + number::len(decoder.wanted);
+    if decoder.at < QOI_HEADER_SIZE {
+        return at_offset;
+    }
+    let pixel_offset = at_offset + number::len(decoder.at as u64);
+    let header = decoder.header;
+    if header.n_pixels() < decoder.pixel {
+        return pixel_offset;
+    }
+    pixel_offset + number::len(decoder.pixel as u64)
 }
 
 // Last of all, the number of another message.

@@ -9,7 +9,7 @@ use Rattle.resume.proofs.read_record.accept.Tie as tie
 returns : tie.Need-returns
 unfolding acceptState
 returns c =
-    rw (← c .before .before .well-formed .ensures, not-true (c .before .before .well-formed .result) (c .before .if1 .taken)) (c .refused .ensures)
+    rw (← c .before .before .before .well-formed .ensures, not-true (c .before .before .before .well-formed .result) (c .before .before .if1 .taken), ← c .before .fault-offset .ensures) (c .refused .ensures)
 
 returns-2 : tie.Need-returns-2
 unfolding acceptState
@@ -25,6 +25,7 @@ pub accept-spec : {M : Type 1} → statement M
 accept-spec =
     tie.close
     (tie.spec
+    (λ c κs. search needs)
     (λ c κs. search needs)
     (λ c κs. search needs)
     returns

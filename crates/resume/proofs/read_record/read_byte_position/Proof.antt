@@ -6,16 +6,12 @@ use native.Mathlib.Omega.{arith}
 use borrow.Author.Needs.{needs}
 use Rattle.number.proofs.Laws.{read-bounds}
 use Rattle.rules.specs.Record.{afterNumber}
-use Rattle.rules.proofs.PastingLaws.{whole-tail}
 use Rattle.resume.proofs.read_record.read_byte_position.Statement.{statement}
 use Rattle.resume.proofs.read_record.read_byte_position.Tie as tie
 
-sub-read-pixel-position : tie.Need-sub-read-pixel-position
-sub-read-pixel-position c =
-    omega (arith, read-bounds _ _ _ (λ i h. c .before .before .before .before .shared-slice-known .given i .fits) (sym (c .before .before .before .read .ensures) ∙ c .before .value .given .1))
-
-part-read-pixel-position-start : tie.Need-part-read-pixel-position-start
-part-read-pixel-position-start c = sub-read-pixel-position c
+add-read-pixel-position : tie.Need-add-read-pixel-position
+add-read-pixel-position c =
+    record { fits = omega (arith, read-bounds _ _ _ _ (λ i h. c .before .before .before .before .shared-slice-known .given i .fits) (sym (c .before .before .before .read .ensures) ∙ c .before .value .given .1)) }
 
 returns : tie.Need-returns
 unfolding afterNumber
@@ -23,8 +19,7 @@ returns c = rw (← c .before .before .before .before .read .ensures, c .before 
 
 returns-2 : tie.Need-returns-2
 unfolding afterNumber
-returns-2 c =
-    rw (← c .before .before .before .before .before .read .ensures, c .before .before .before .value .given .1, ← whole-tail (c .before .before .before .before .before .before .before .args .bytes .now) _) (c .read-pixel-position .ensures)
+returns-2 c = rw (← c .before .before .before .before .read .ensures, c .before .before .value .given .1) (c .read-pixel-position .ensures)
 
 pub read-byte-position-spec : {M : Type 1} → statement M
 read-byte-position-spec =
@@ -34,9 +29,7 @@ read-byte-position-spec =
     (λ c. search needs)
     (λ c κs. search needs)
     (λ c. search needs)
-    sub-read-pixel-position
-    part-read-pixel-position-start
-    (λ c. search needs)
+    add-read-pixel-position
     (λ c κs. search needs)
     returns
     returns-2)

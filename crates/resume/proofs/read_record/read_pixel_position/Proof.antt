@@ -1,21 +1,26 @@
 -- `resume::read_record::read_pixel_position` meets its contract: the number's answer leads to the case of the
 -- definition.
 -- Assumes nothing.
+use Prim.Native.Nat.{_+_, _≤_}
 use mathlib.Core.Path.{sym, _∙_}
 use native.Mathlib.Omega.{arith}
+use lib.ListN.{length}
 use borrow.Author.Needs.{needs}
 use Rattle.number.proofs.Laws.{read-bounds}
 use Rattle.rules.specs.Record.{afterNumber}
-use Rattle.rules.proofs.PastingLaws.{whole-tail}
 use Rattle.resume.proofs.read_record.read_pixel_position.Statement.{statement}
 use Rattle.resume.proofs.read_record.read_pixel_position.Tie as tie
 
-sub-read-slots : tie.Need-sub-read-slots
-sub-read-slots c =
-    omega (arith, read-bounds _ _ _ (λ i h. c .before .before .before .before .shared-slice-known .given i .fits) (sym (c .before .before .before .read .ensures) ∙ c .before .value .given .1))
+-- the slots start within the record
+inside : (c : tie.After-known-told2) → c .before .before .before .before .before .args .start + c .before .value .given .0 .1 .0 ≤ length (c .before .before .before .before .before .args .bytes .now)
+inside c =
+    read-bounds _ _ _ _ (λ i h. c .before .before .before .before .shared-slice-known .given i .fits) (sym (c .before .before .before .read .ensures) ∙ c .before .value .given .1) .3
 
-part-read-slots-start : tie.Need-part-read-slots-start
-part-read-slots-start c = sub-read-slots c
+add-read-slots : tie.Need-add-read-slots
+add-read-slots c = record { fits = omega (arith, inside c) }
+
+read-slots-requires : tie.Need-read-slots-requires
+read-slots-requires c κs = inside c
 
 returns : tie.Need-returns
 unfolding afterNumber
@@ -23,8 +28,7 @@ returns c = rw (← c .before .before .before .before .read .ensures, c .before 
 
 returns-2 : tie.Need-returns-2
 unfolding afterNumber
-returns-2 c =
-    rw (← c .before .before .before .before .before .read .ensures, c .before .before .before .value .given .1, ← whole-tail (c .before .before .before .before .before .before .before .args .bytes .now) _) (c .read-slots .ensures)
+returns-2 c = rw (← c .before .before .before .before .read .ensures, c .before .before .value .given .1) (c .read-slots .ensures)
 
 pub read-pixel-position-spec : {M : Type 1} → statement M
 read-pixel-position-spec =
@@ -34,9 +38,7 @@ read-pixel-position-spec =
     (λ c. search needs)
     (λ c κs. search needs)
     (λ c. search needs)
-    sub-read-slots
-    part-read-slots-start
-    (λ c. search needs)
-    (λ c κs. search needs)
+    add-read-slots
+    read-slots-requires
     returns
     returns-2)

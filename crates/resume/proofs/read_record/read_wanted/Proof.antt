@@ -5,16 +5,12 @@ use native.Mathlib.Omega.{arith}
 use borrow.Author.Needs.{needs}
 use Rattle.number.proofs.Laws.{read-bounds}
 use Rattle.rules.specs.Record.{readWanted, afterNumber}
-use Rattle.rules.proofs.PastingLaws.{whole-tail}
 use Rattle.resume.proofs.read_record.read_wanted.Statement.{statement}
 use Rattle.resume.proofs.read_record.read_wanted.Tie as tie
 
-sub-read-positions : tie.Need-sub-read-positions
-sub-read-positions c =
-    omega (arith, read-bounds _ _ _ (λ i h. c .before .before .before .before .before .shared-slice-known .given i .fits) (sym (c .before .before .before .before .read .ensures) ∙ c .before .before .value .given .1))
-
-part-read-positions-start : tie.Need-part-read-positions-start
-part-read-positions-start c = sub-read-positions c
+add-read-positions : tie.Need-add-read-positions
+add-read-positions c =
+    record { fits = omega (arith, read-bounds _ _ _ _ (λ i h. c .before .before .before .before .before .shared-slice-known .given i .fits) (sym (c .before .before .before .before .read .ensures) ∙ c .before .before .value .given .1)) }
 
 returns : tie.Need-returns
 unfolding readWanted afterNumber
@@ -23,7 +19,7 @@ returns c = rw (← c .before .before .before .before .read .ensures, c .before 
 returns-2 : tie.Need-returns-2
 unfolding readWanted afterNumber
 returns-2 c =
-    rw (← c .before .before .before .before .before .before .read .ensures, c .before .before .before .before .value .given .1, ← c .before .before .try-from .ensures, ← whole-tail (c .before .before .before .before .before .before .before .before .args .bytes .now) _) (c .read-positions .ensures)
+    rw (← c .before .before .before .before .before .read .ensures, c .before .before .before .value .given .1, ← c .before .try-from .ensures) (c .read-positions .ensures)
 
 pub read-wanted-spec : {M : Type 1} → statement M
 read-wanted-spec =
@@ -34,9 +30,7 @@ read-wanted-spec =
     (λ c κs. search needs)
     (λ c. search needs)
     (λ c κs. search needs)
-    sub-read-positions
-    part-read-positions-start
-    (λ c. search needs)
+    add-read-positions
     (λ c κs. search needs)
     returns
     returns-2)
