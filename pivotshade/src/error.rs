@@ -2,8 +2,9 @@
 use crate::ffi::{self, Answer};
 use std::convert::Infallible;
 use std::fmt;
+use std::num::NonZeroUsize;
 
-/// Why something was refused: crate qoi's variants, then seven that are added.
+/// Why something was refused: crate qoi's variants, then eight that are added.
 ///
 /// Crate qoi's `IoError` is missing, since nothing here reads or writes a stream. So unlike crate qoi's this type can be copied and compared.
 ///
@@ -57,12 +58,20 @@ pub enum Error {
         /// The length asked for.
         required: usize,
     },
-    /// The message, or a record, is cut short.
+    /// The message is cut short; or a record is, within its header, which is at its byte 0.
     UnexpectedBufferEnd,
     /// The end marker does not follow the last pixel.
     InvalidPadding,
+    /// A record that is cut short after its header (added).
+    CutRecord {
+        /// Where in the record the field that is cut starts; an offset of 0 is `UnexpectedBufferEnd`, so no two refusals have one number and figures.
+        at: NonZeroUsize,
+    },
     /// Bytes that are no record (added).
-    BadState,
+    BadRecord {
+        /// Where in them the first faulty field starts, or what follows the record.
+        at: usize,
+    },
     /// A run that is longer than the pixels left, which the strict check alone refuses (added).
     RunPastImage,
     /// Bytes after the end marker, which the strict check alone refuses (added).
@@ -113,6 +122,7 @@ impl Error {
     const fn told(&self) -> Answer {
         match *self {
             Self::UnexpectedBufferEnd => (1, [0; 4]),
+            Self::CutRecord { at } => (1, [at.get() as u64, 0, 0, 0]),
             Self::InvalidChannels { channels } => (2, [channels as u64, 0, 0, 0]),
             Self::InvalidColorSpace { colorspace } => (3, [colorspace as u64, 0, 0, 0]),
             Self::InvalidMagic { magic } => (4, [magic as u64, 0, 0, 0]),
@@ -128,7 +138,7 @@ impl Error {
                 (7, [size as u64, required as u64, 0, 0])
             }
             Self::InvalidPadding => (8, [0; 4]),
-            Self::BadState => (9, [0; 4]),
+            Self::BadRecord { at } => (9, [at as u64, 0, 0, 0]),
             Self::RunPastImage => (10, [0; 4]),
             Self::BytesAfterMarker => (11, [0; 4]),
             Self::OtherMessage { number } => (12, [number, 0, 0, 0]),
@@ -141,7 +151,10 @@ impl Error {
     /// The refusal that a proved function told. Its figures fit these types by its contract, so no cast cuts anything off.
     fn of((number, [a, b, c, _]): Answer) -> Self {
         match number {
-            1 => Self::UnexpectedBufferEnd,
+            1 => match NonZeroUsize::new(a as usize) {
+                Some(at) => Self::CutRecord { at },
+                None => Self::UnexpectedBufferEnd,
+            },
             2 => Self::InvalidChannels { channels: a as u8 },
             3 => Self::InvalidColorSpace {
                 colorspace: a as u8,
@@ -161,7 +174,7 @@ impl Error {
                 required: b as usize,
             },
             8 => Self::InvalidPadding,
-            9 => Self::BadState,
+            9 => Self::BadRecord { at: a as usize },
             10 => Self::RunPastImage,
             11 => Self::BytesAfterMarker,
             12 => Self::OtherMessage { number: a },

@@ -35,7 +35,7 @@
 //! - [`strict()`]: whether a message has nothing that a decode would pass over.
 //! - Rain totals: a [`Table`] for a month, and [`Table::count`], which adds an hour's frame to it once, however often it comes.
 //! - [`rest`] and [`Decoder::data`]: what follows a message.
-//! - [`Error::number`] and [`Error::figures`], and seven refusals.
+//! - [`Error::number`] and [`Error::figures`], and eight refusals; those of a record say at which of its bytes it is bad.
 //!
 //! # What differs from crate qoi
 //!
@@ -43,7 +43,7 @@
 //! - No features, and `std` is needed. The encoder is that of crate qoi without its feature `reference`.
 //! - An output that is longer than needed, [`Decoder::data`] after a decode and a second decode: see [`Decoder`].
 //! - [`encode_max_len`] and [`Header::n_bytes`] stop at 2^64-1.
-//! - [`Error`] has seven variants more, so a `match` over all of it needs them.
+//! - [`Error`] has eight variants more, so a `match` over all of it needs them.
 //!
 //! # Building
 //!

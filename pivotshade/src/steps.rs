@@ -36,11 +36,14 @@ impl Record {
     /// The record of saved bytes, for the message that came under `number`: tested by the proved reader; one byte more or less than were saved is
     /// refused too.
     ///
-    /// Refused: [`Error::UnexpectedBufferEnd`](crate::Error::UnexpectedBufferEnd) where it is cut short, a refusal of its header as
-    /// [`decode_header`] has it, [`Error::InvalidChannels`](crate::Error::InvalidChannels) of what it decodes to,
-    /// [`Error::BadState`](crate::Error::BadState), or last of all [`Error::OtherMessage`](crate::Error::OtherMessage), a whole record of a message
-    /// with another number. A damage that leaves another record of the same message cannot be told: a store that may damage its bytes needs a sum of
-    /// its own over them.
+    /// Refused: a refusal of its header as [`decode_header`] has it, [`Error::CutRecord`](crate::Error::CutRecord) where it is cut short after that,
+    /// [`Error::InvalidChannels`](crate::Error::InvalidChannels) of what it decodes to, [`Error::BadRecord`](crate::Error::BadRecord), or last of all
+    /// [`Error::OtherMessage`](crate::Error::OtherMessage), a whole record of a message with another number. A damage that leaves another record of the
+    /// same message cannot be told: a store that may damage its bytes needs a sum of its own over them.
+    ///
+    /// The fields of a record: its header, 14 bytes; the channels that it decodes to, the byte position and the pixel position, numbers of one to ten
+    /// bytes each; the current pixel, 4 bytes; the slots, 256; the message's number, as the others. `CutRecord` and `BadRecord` say where the field
+    /// starts that is cut or faulty.
     ///
     /// ```
     /// use pivotshade::{encode_to_vec, start, Channels, Error, Record};
@@ -50,7 +53,13 @@ impl Record {
     /// assert_eq!(Record::from_bytes(saved, 17), Ok(record.clone()));
     /// assert_eq!(Record::from_bytes(saved, 18), Err(Error::OtherMessage { number: 17 }));
     /// assert_eq!(Record::from_bytes(&saved[1..], 17), Err(Error::InvalidChannels { channels: 0 }));
-    /// assert_eq!(Record::from_bytes(&saved[..200], 17), Err(Error::UnexpectedBufferEnd));
+    ///
+    /// // the slots are cut, which start at byte 21 here
+    /// let refused = Record::from_bytes(&saved[..200], 17).unwrap_err();
+    /// assert_eq!(refused.to_string(), "record is bad at byte 21 (unexpected end)");
+    /// // a byte too many
+    /// let refused = Record::from_bytes(&[saved, &[0]].concat(), 17).unwrap_err();
+    /// assert_eq!(refused, Error::BadRecord { at: saved.len() });
     /// # Ok::<(), pivotshade::Error>(())
     /// ```
     pub fn from_bytes(bytes: &[u8], number: u64) -> Result<Self> {

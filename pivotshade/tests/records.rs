@@ -3,12 +3,15 @@ mod common;
 
 use common::{picture, Random};
 use pivotshade::{encode_to_vec, run, start, strict, Channels, Error, Ran, Record};
+use std::num::NonZeroUsize;
 
 /// Where the parts of a record stand whose numbers are a byte each.
 const WANTED: usize = 14;
 const POSITION: usize = 15;
 const PIXEL: usize = 16;
+const CURRENT: usize = 17;
 const ALPHA: usize = 20;
+const SLOTS: usize = 21;
 const NUMBER: usize = 277;
 
 /// The number of the messages here.
@@ -18,6 +21,16 @@ const SENT: u64 = 7;
 fn each_length() -> impl Iterator<Item = u64> {
     let ends = (1..64).map(|bits| 1 << bits);
     ends.flat_map(|end| [end - 1, end]).chain([0, u64::MAX])
+}
+
+/// Cut short in the field that starts there, which is not the header.
+fn cut(at: usize) -> Error {
+    let at = NonZeroUsize::new(at).unwrap();
+    Error::CutRecord { at }
+}
+
+fn bad(at: usize) -> Error {
+    Error::BadRecord { at }
 }
 
 /// The record of a 1x1 message before its first chunk.
@@ -163,8 +176,17 @@ fn cut_at_every_byte() {
     // as long as all but the number, it is a record of a format that had none
     assert_eq!(bytes.len(), NUMBER + 1);
     for length in 0..bytes.len() {
-        let cut = Record::from_bytes(&bytes[..length], SENT);
-        assert_eq!(cut, Err(Error::UnexpectedBufferEnd));
+        let refused = if length < WANTED {
+            Error::UnexpectedBufferEnd
+        } else if (CURRENT..SLOTS).contains(&length) {
+            cut(CURRENT)
+        } else if (SLOTS..NUMBER).contains(&length) {
+            cut(SLOTS)
+        } else {
+            cut(length)
+        };
+        let read = Record::from_bytes(&bytes[..length], SENT);
+        assert_eq!(read, Err(refused));
     }
 }
 
@@ -172,8 +194,9 @@ fn cut_at_every_byte() {
 fn lengthened() {
     for more in [1, 13, 14, 1000] {
         let mut bytes = first(Channels::Rgba);
-        bytes.resize(bytes.len() + more, 0);
-        assert_eq!(Record::from_bytes(&bytes, SENT), Err(Error::BadState));
+        let length = bytes.len();
+        bytes.resize(length + more, 0);
+        assert_eq!(Record::from_bytes(&bytes, SENT), Err(bad(length)));
     }
 }
 
@@ -186,34 +209,34 @@ fn each_fault() {
     let most = Error::InvalidChannels { channels: 255 };
     assert_eq!(wanted(&[0xac, 0x02]), Err(most));
     // 3, but not in the shortest form
-    assert_eq!(wanted(&[0x83, 0x00]), Err(Error::BadState));
+    assert_eq!(wanted(&[0x83, 0x00]), Err(bad(WANTED)));
 
     let position = |new: &[u8]| replaced(Channels::Rgb, POSITION, 1, new).map(|_| ());
-    assert_eq!(position(&[13]), Err(Error::BadState));
+    assert_eq!(position(&[13]), Err(bad(POSITION)));
     assert_eq!(position(&[0x80, 0x01]), Ok(()));
     let mut largest = [0xff; 10];
     largest[9] = 1;
     assert_eq!(position(&largest), Ok(()));
     largest[9] = 2;
-    assert_eq!(position(&largest), Err(Error::BadState));
+    assert_eq!(position(&largest), Err(bad(POSITION)));
 
     let pixel = |new: &[u8]| replaced(Channels::Rgb, PIXEL, 1, new).map(|_| ());
     assert_eq!(pixel(&[1]), Ok(()));
-    assert_eq!(pixel(&[2]), Err(Error::BadState));
+    assert_eq!(pixel(&[2]), Err(bad(PIXEL)));
 
     let alpha = |channels, new| replaced(channels, ALPHA, 1, &[new]).map(|_| ());
-    assert_eq!(alpha(Channels::Rgb, 254), Err(Error::BadState));
+    assert_eq!(alpha(Channels::Rgb, 254), Err(bad(CURRENT)));
     assert_eq!(alpha(Channels::Rgba, 254), Ok(()));
 
     let number = |new: &[u8]| replaced(Channels::Rgb, NUMBER, 1, new).map(|_| ());
     assert_eq!(number(&[8]), Err(Error::OtherMessage { number: 8 }));
-    assert_eq!(number(&[0x87]), Err(Error::UnexpectedBufferEnd));
-    assert_eq!(number(&[0x87, 0x00]), Err(Error::BadState));
+    assert_eq!(number(&[0x87]), Err(cut(NUMBER)));
+    assert_eq!(number(&[0x87, 0x00]), Err(bad(NUMBER)));
     largest[9] = 1;
     let most = Error::OtherMessage { number: u64::MAX };
     assert_eq!(number(&largest), Err(most));
     largest[9] = 2;
-    assert_eq!(number(&largest), Err(Error::BadState));
+    assert_eq!(number(&largest), Err(bad(NUMBER)));
 
     let header = |at, new| replaced(Channels::Rgb, at, 1, &[new]).map(|_| ());
     let (width, height) = (0, 1);
@@ -272,6 +295,9 @@ fn damaged_in_every_byte() {
                 }
                 Err(error) => {
                     assert!([1, 2, 3, 4, 5, 9, 12].contains(&error.number()));
+                    if let Error::BadRecord { at } = error {
+                        assert!((WANTED..=length).contains(&at));
+                    }
                     refused += 1;
                 }
             }

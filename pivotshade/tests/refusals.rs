@@ -6,6 +6,7 @@ use pivotshade::{
     decode_header, decode_to_buf, decode_to_vec, encode_to_buf, encode_to_vec, run, start, strict,
     Channels, ColorSpace, Encoder, Error, Header, Record, Table,
 };
+use std::num::NonZeroUsize;
 
 /// A refusal that came, and what it must be and say.
 fn is(came: Error, error: Error, number: u64, figures: [u64; 4], words: &str) {
@@ -31,6 +32,23 @@ fn unexpected_buffer_end() {
     let refused = decode_to_buf(&mut out, cut);
     assert_eq!(refused, Err(Error::UnexpectedBufferEnd));
     assert_eq!(out, [7, 8, 9, 0xee, 0xee, 0xee]);
+    // a record's header is at its byte 0, so it is told as a message's
+    let record = start(message(1, 3, &[0xc0]), 17, Channels::Rgb).unwrap();
+    let refused = Record::from_bytes(&record.as_bytes()[..13], 17);
+    assert_eq!(refused, Err(Error::UnexpectedBufferEnd));
+}
+
+#[test]
+fn cut_record() {
+    let record = start(message(1, 3, &[0xc0]), 17, Channels::Rgb).unwrap();
+    let at = NonZeroUsize::new(17).unwrap();
+    is(
+        Record::from_bytes(&record.as_bytes()[..20], 17).unwrap_err(),
+        Error::CutRecord { at },
+        1,
+        [17, 0, 0, 0],
+        "record is bad at byte 17 (unexpected end)",
+    );
 }
 
 #[test]
@@ -142,15 +160,17 @@ fn invalid_padding() {
 }
 
 #[test]
-fn bad_state() {
+fn bad_record() {
     let record = start(message(1, 3, &[0xc0]), 17, Channels::Rgb).unwrap();
-    let longer = [record.as_bytes(), &[0]].concat();
+    let mut clear = record.as_bytes().to_vec();
+    // the current pixel's alpha
+    clear[20] = 254;
     is(
-        Record::from_bytes(&longer, 17).unwrap_err(),
-        Error::BadState,
+        Record::from_bytes(&clear, 17).unwrap_err(),
+        Error::BadRecord { at: 17 },
         9,
-        [0; 4],
-        "invalid decoder state or record",
+        [17, 0, 0, 0],
+        "record is bad at byte 17",
     );
 }
 
@@ -270,6 +290,17 @@ fn figures_of_any_size_have_words() {
             Error::InvalidMagic { magic: u32::MAX },
             "invalid magic: expected 1903126886, got [255, 255, 255, 255]",
         ),
+        (
+            Error::CutRecord {
+                at: NonZeroUsize::new(usize::MAX).unwrap(),
+            },
+            "record is bad at byte 18446744073709551615 (unexpected end)",
+        ),
+        (
+            Error::BadRecord { at: usize::MAX },
+            "record is bad at byte 18446744073709551615",
+        ),
+        (Error::BadRecord { at: 0 }, "invalid decoder state"),
         (
             Error::OtherMessage { number: u64::MAX },
             "record of another message: 18446744073709551615",
