@@ -20,7 +20,7 @@ pub enum Cases {
     Fewer(u64, fn(&mut Check, &mut Random)),
 }
 
-pub const KINDS: [(&str, Cases); 65] = [
+pub const KINDS: [(&str, Cases); 67] = [
     (
         "headers, each byte at each place",
         Cases::All(families::HEADER_BYTES, each_header_byte),
@@ -64,6 +64,10 @@ pub const KINDS: [(&str, Cases); 65] = [
     ),
     ("records, damaged", Cases::Some(records::damaged)),
     ("records, numbers in them", Cases::Some(records::numbers)),
+    (
+        "records, faults combined",
+        Cases::All(records::FAULTS, records::faults),
+    ),
     (
         "records, each number near theirs",
         Cases::All(records::EVERY_NUMBER, records::every_number),
@@ -181,6 +185,10 @@ pub const KINDS: [(&str, Cases); 65] = [
     (
         "text: figures at range ends",
         Cases::All(texts::EDGES, texts::edges),
+    ),
+    (
+        "text: offsets in a record",
+        Cases::All(texts::OFFSETS, texts::offsets),
     ),
     (
         "text: the magic's bytes",

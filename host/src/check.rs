@@ -22,8 +22,8 @@ const SHOWN: usize = 2000;
 const COUNTS: [u64; 12] = [0, COUNTED_ALREADY, 1, 2, 3, 4, 5, 7, 8, 19, 20, 21];
 
 /// How many cases the Rust answered with each number (of records and the strict check: the rules), how many of them were encodes, strict checks and
-/// refusals in words; how often a history's worker found a record of the previous hour; the months, and how the ledger answered their calls, in the
-/// order of `COUNTS`; and how often the port did otherwise.
+/// refusals in words; how often a history's worker found a record of the previous hour; how many records are refused with an offset in them; the
+/// months, and how the ledger answered their calls, in the order of `COUNTS`; and how often the port did otherwise.
 #[derive(Clone, Copy, Default)]
 pub struct Tally {
     pub answers: [u64; 13],
@@ -31,6 +31,7 @@ pub struct Tally {
     pub stricts: u64,
     pub texts: u64,
     pub previous: u64,
+    pub offsets: u64,
     pub months: u64,
     pub counts: [u64; COUNTS.len()],
     pub differences: u64,
@@ -50,6 +51,7 @@ impl Tally {
         self.stricts += other.stricts;
         self.texts += other.texts;
         self.previous += other.previous;
+        self.offsets += other.offsets;
         self.months += other.months;
         self.differences += other.differences;
     }
@@ -180,6 +182,19 @@ impl Check {
     /// Adds the records of the previous hour that a history found.
     pub fn found_previous(&mut self, times: u64) {
         self.tally.previous += times;
+    }
+
+    /// A case of a record that is read: the answer that was expected, and what was found otherwise.
+    pub fn record(
+        &mut self,
+        expected: Answer,
+        result: Result<(), String>,
+        call: &str,
+        record: &[u8],
+    ) {
+        let [offset, ..] = expected.figures;
+        self.tally.offsets += u64::from([1, 9].contains(&expected.number) && offset > 0);
+        self.case(expected.number, result, call, "record", record);
     }
 
     /// What else was expected of a call, beside the Rust's answer.

@@ -315,6 +315,7 @@ pub fn run(cases: u64, seed: u64, folder: &Path) -> ExitCode {
         "in the histories {} records of the previous hour",
         total.previous
     );
+    println!("of the damaged records {} refused at a byte", total.offsets);
     println!("{} cases, {} differences", total.cases(), total.differences);
     ExitCode::from(u8::from(total.differences > 0))
 }

@@ -1,5 +1,5 @@
-// Checkpoint records, written and read from the rules of document 01 and of document 02's Q-7 alone: what the port's records, and its refusals of bad
-// ones, are held to.
+// Checkpoint records, written and read from the rules of document 01 and of document 02's alone: what the port's records, and its refusals
+// of bad ones with the places in them, are held to.
 use crate::answer::Answer;
 use crate::oracle;
 
@@ -20,10 +20,15 @@ pub struct Record {
     pub number: u64,
 }
 
-/// Cut short.
-const CUT: Answer = Answer::refused(1, [0; 4]);
-/// A bad state or record.
-const BAD: Answer = Answer::refused(9, [0; 4]);
+/// A record that is cut short in the field that starts at this byte of it.
+fn cut_at(start: usize) -> Answer {
+    Answer::refused(1, [start as u64, 0, 0, 0])
+}
+
+/// A record of which a field is bad that starts at this byte of it, or what follows it.
+fn bad_at(start: usize) -> Answer {
+    Answer::refused(9, [start as u64, 0, 0, 0])
+}
 
 /// A record of the message with this number, which is not the one expected.
 pub fn of_another(number: u64) -> Answer {
@@ -65,23 +70,30 @@ impl Record {
         if !answer.is_accepted() {
             return Err(answer);
         }
-        let mut reader = Reader(bytes);
+        let mut reader = Reader { bytes, place: 0 };
         let header = reader.array()?;
         let wanted = reader.number()?;
         if wanted != 3 && wanted != 4 {
             return Err(Answer::refused(2, [wanted.min(255), 0, 0, 0]));
         }
-        let (at, pixel) = (reader.number()?, reader.number()?);
-        let current = reader.array()?;
-        let mut slots = [[0; 4]; 64];
-        for slot in &mut slots {
-            *slot = reader.array()?;
-        }
+        let at_start = reader.place;
+        let at = reader.number()?;
+        let pixel_start = reader.place;
+        let pixel = reader.number()?;
+        let current_start = reader.place;
+        let current: [u8; 4] = reader.array()?;
+        let all_slots: [u8; 256] = reader.array()?;
         let number = reader.number()?;
         let [width, height, _, _] = answer.figures;
-        let is_opaque = current[3] == 255 || wanted == 4;
-        if at < 14 || pixel > width * height || !is_opaque || !reader.0.is_empty() {
-            return Err(BAD);
+        for (is_fault, start) in [
+            (at < 14, at_start),
+            (pixel > width * height, pixel_start),
+            (wanted == 3 && current[3] != 255, current_start),
+            (reader.place < bytes.len(), reader.place),
+        ] {
+            if is_fault {
+                return Err(bad_at(start));
+            }
         }
         if number != expected {
             return Err(of_another(number));
@@ -92,37 +104,50 @@ impl Record {
             at,
             pixel,
             current,
-            slots,
+            slots: slots_of(&all_slots),
             number,
         })
     }
 }
 
-/// What is left of a record.
-struct Reader<'a>(&'a [u8]);
+/// Four bytes each.
+fn slots_of(bytes: &[u8; 256]) -> [[u8; 4]; 64] {
+    let mut slots = [[0; 4]; 64];
+    for (slot, four) in slots.iter_mut().zip(bytes.chunks_exact(4)) {
+        slot.copy_from_slice(four);
+    }
+    slots
+}
+
+/// A record, and how much of it is read.
+struct Reader<'a> {
+    bytes: &'a [u8],
+    place: usize,
+}
 
 impl Reader<'_> {
+    /// A field of so many bytes.
     fn array<const N: usize>(&mut self) -> Result<[u8; N], Answer> {
-        if self.0.len() < N {
-            return Err(CUT);
-        }
-        let (first, rest) = self.0.split_at(N);
-        self.0 = rest;
-        Ok(first.try_into().expect("as many as were asked for"))
+        let start = self.place;
+        let field = self.bytes.get(start..start + N).ok_or(cut_at(start))?;
+        self.place += N;
+        Ok(field.try_into().expect("as many as were asked for"))
     }
 
-    /// The last byte of the shortest form is 00 for the number 0 alone, and a tenth byte 01 always.
+    /// A field that is a number. The last byte of the shortest form is 00 for the number 0 alone, and a tenth byte 01 always.
     fn number(&mut self) -> Result<u64, Answer> {
+        let start = self.place;
         let mut number = 0;
-        for place in 0..10 {
-            let [byte] = self.array()?;
-            if place == 9 && byte != 1 {
-                return Err(BAD);
+        for group in 0..10 {
+            let byte = *self.bytes.get(self.place).ok_or(cut_at(start))?;
+            self.place += 1;
+            if group == 9 && byte != 1 {
+                return Err(bad_at(start));
             }
-            number |= u64::from(byte % 128) << (7 * place);
+            number |= u64::from(byte % 128) << (7 * group);
             if byte < 128 {
-                if byte == 0 && place > 0 {
-                    return Err(BAD);
+                if byte == 0 && group > 0 {
+                    return Err(bad_at(start));
                 }
                 break;
             }

@@ -103,7 +103,7 @@ fn read(check: &mut Check, random: &mut Random, bytes: &[u8], number: u64) {
         }
     });
     let call = format!("run of no steps, message {number}, next of {room} bytes");
-    check.case(expected.number, result, &call, "record", bytes);
+    check.record(expected, result, &call, bytes);
 }
 
 /// Records of the first and the last place, of numbers of one byte and of ten, for three channels and for four.
@@ -269,6 +269,72 @@ pub fn numbers(check: &mut Check, random: &mut Random) {
         let expected = some_expected(random, &record);
         read(check, random, &bytes, expected);
     }
+}
+
+/// How a number stands in a record: as it is, not in the shortest form, with a tenth byte other than 01.
+const FORMS: u64 = 3;
+
+fn number_in_form(random: &mut Random, form: u64, number: u64) -> Vec<u8> {
+    let mut bytes = Vec::new();
+    match form {
+        0 => put_number(&mut bytes, number),
+        1 => {
+            put_number(&mut bytes, number % (1 << 56));
+            *bytes.last_mut().expect("at least one") |= 0x80;
+            bytes.resize(random.between(bytes.len(), 9), 0x80);
+            bytes.push(0);
+        }
+        _ => {
+            bytes.resize(9, *random.pick(&[0x80, 0xff]));
+            bytes.push(*random.pick(&[0, 2, 3, 0x7f, 0x80, 0x81, 0xff]));
+        }
+    }
+    bytes
+}
+
+/// Each number in each form; wanted other than 3 and 4; each fault of state; the record whole, cut anywhere, with some bytes more; for its own message,
+/// and for another one.
+pub const FAULTS: u64 = FORMS * FORMS * FORMS * FORMS * 2 * 2 * 2 * 2 * 4 * 2 * FEW.len() as u64;
+
+/// Every two faults of a record, and more at once.
+pub fn faults(check: &mut Check, case: u64) {
+    let mut number = case;
+    let forms = [(); 4].map(|()| digit(&mut number, FORMS));
+    let [is_five, is_before, is_past, is_clear] = [(); 4].map(|()| digit(&mut number, 2) == 1);
+    let end = digit(&mut number, 4);
+    let is_own = digit(&mut number, 2) == 0;
+    let mut random = Random::new(case);
+    let mut record = one_of_few(number);
+    let expected = record.number ^ u64::from(!is_own);
+    if is_five {
+        record.wanted = 5;
+    }
+    if is_before {
+        record.at = random.below(14) as u64;
+    }
+    if is_past {
+        record.pixel = 400_000_001 + (random.next() >> random.between(1, 63));
+    }
+    if is_clear {
+        record.current[3] = random.below(255) as u8;
+    }
+    let all = [record.wanted, record.at, record.pixel, record.number];
+    let mut numbers = all.iter().zip(forms);
+    let mut next = || {
+        let (number, form) = numbers.next().expect("four");
+        number_in_form(&mut random, form, *number)
+    };
+    let mut bytes = [&record.header[..], &next(), &next(), &next()].concat();
+    bytes.extend(record.current);
+    bytes.extend(record.slots.concat());
+    bytes.extend(next());
+    match end {
+        0 => {}
+        1 => bytes.truncate(random.below(bytes.len())),
+        2 => bytes.push(random.byte()),
+        _ => bytes.resize(bytes.len() + random.between(2, 40), random.byte()),
+    }
+    read(check, &mut random, &bytes, expected);
 }
 
 /// Any header, number, wanted and room for the record.

@@ -5,7 +5,7 @@ use crate::answer::Answer;
 use crate::messages::{any_message, any_number, other_number};
 use crate::port::MORE;
 use crate::random::Random;
-use crate::record::{of_another, Record};
+use crate::record::Record;
 use crate::trace::Trace;
 use std::io::{BufRead, BufReader, Write};
 use std::process::{Command, ExitCode, Stdio};
@@ -36,6 +36,8 @@ struct State {
     /// The line that the program must print.
     line: String,
     adds_up: bool,
+    /// Whether its record is refused, and where.
+    is_faulty: bool,
 }
 
 /// Bytes after their length.
@@ -58,7 +60,7 @@ impl State {
         }
     }
 
-    /// A state of a decode, with the pixels left that it has, or with others; or one whose pixel position is past the picture, or of another message.
+    /// A state of a decode, with the pixels left that it has, or with others; or one that is faulty as its record has it, or of another message.
     fn of(random: &mut Random, message: Vec<u8>, trace: &Trace) -> Self {
         let done = random.below(trace.steps() + 1);
         let named = any_number(random);
@@ -73,31 +75,35 @@ impl State {
             4 => random.next() >> random.below(64),
             _ => 0,
         };
-        let is_past = random.one_in(16);
-        if is_past {
-            record.pixel = pixels + 1 + (random.next() >> random.between(1, 63));
+        let is_faulty = random.one_in(16);
+        if is_faulty {
+            match random.below(4) {
+                0 => record.at = random.below(14) as u64,
+                1 if record.wanted == 3 => record.current[3] = random.below(255) as u8,
+                _ => record.pixel = pixels + 1 + (random.next() >> random.between(1, 63)),
+            }
         }
         let number = match random.one_in(8) {
             true => other_number(random, named),
             false => named,
         };
-        let line = if is_past {
-            line(BAD)
-        } else if number != named {
-            line(of_another(named))
-        } else if more != 0 {
-            let left = left.wrapping_add(more);
-            // no steps test nothing
-            let ran = match steps {
-                0 => Answer::refused(MORE, [record.at, record.pixel, left, number]),
-                _ => BAD,
-            };
-            format!("{} 0 {}", line(ran), line(BAD))
-        } else {
-            let (ran, changed) = ran(trace, done, steps.into(), number);
-            let length = record.write().len() as u64;
-            let written = Answer::accepted([length, 0, 0, 0]);
-            format!("{} {changed} {}", line(ran), line(written))
+        let bytes = record.write();
+        let line = match Record::read(&bytes, number) {
+            Err(refusal) => line(refusal),
+            Ok(_) if more != 0 => {
+                let left = left.wrapping_add(more);
+                // no steps test nothing
+                let ran = match steps {
+                    0 => Answer::refused(MORE, [record.at, record.pixel, left, number]),
+                    _ => BAD,
+                };
+                format!("{} 0 {}", line(ran), line(BAD))
+            }
+            Ok(_) => {
+                let (ran, changed) = ran(trace, done, steps.into(), number);
+                let written = Answer::accepted([bytes.len() as u64, 0, 0, 0]);
+                format!("{} {changed} {}", line(ran), line(written))
+            }
         };
         Self {
             message,
@@ -106,7 +112,8 @@ impl State {
             number,
             steps,
             line,
-            adds_up: more == 0 && !is_past,
+            adds_up: more == 0,
+            is_faulty,
         }
     }
 
@@ -121,7 +128,7 @@ impl State {
     }
 }
 
-/// A bad state or record.
+/// A bad state, which no record gave.
 const BAD: Answer = Answer::refused(9, [0; 4]);
 
 /// An answer as the program prints it: its number and four figures.
@@ -183,7 +190,10 @@ pub fn run(count: u64, seed: u64, program: &[&str]) -> ExitCode {
     let odd = states.iter().filter(|state| !state.adds_up).count();
     let is_anothers = |state: &&State| state.record.number != state.number;
     let others = states.iter().filter(is_anothers).count();
-    println!("of these {odd} that do not add up, {others} of another message");
+    let faulty = states.iter().filter(|state| state.is_faulty).count();
+    println!(
+        "of these {odd} that do not add up, {others} of another message, {faulty} of records that are refused at a byte"
+    );
     println!("{count} made-up states, {differences} differences");
     ExitCode::from(u8::from(differences > 0 || !is_well))
 }

@@ -2,6 +2,7 @@
 use crate::cases::{digit, one_of};
 use crate::check::Check;
 use crate::random::Random;
+use crate::record::LONGEST;
 use crate::words;
 
 /// The numbers of refusals.
@@ -50,6 +51,27 @@ pub fn edges(check: &mut Check, mut number: u64) {
     let refusal = one_of(&mut number, &REFUSALS);
     let [a, b, c] = [(); 3].map(|()| figure(&mut number));
     let told = [a, b, c, !a];
+    let words = words::of(refusal, &told);
+    check.text(refusal, &told, &words, room(&mut number, &words));
+}
+
+/// The refusals of a record that tell an offset in it, or none, which is 0.
+const OF_A_RECORD: [u64; 2] = [1, 9];
+
+/// Each place in a record and the one after it.
+const PLACES: u64 = LONGEST as u64 + 1;
+
+pub const OFFSETS: u64 = ROOMS * 2 * (PLACES + FIGURES) * FIGURES;
+
+/// Each offset that a record can be bad at, and figures at range ends; before figures that do not matter.
+pub fn offsets(check: &mut Check, mut number: u64) {
+    let refusal = one_of(&mut number, &OF_A_RECORD);
+    let offset = match digit(&mut number, PLACES + FIGURES) {
+        place if place < PLACES => place,
+        n => figure(&mut (n - PLACES)),
+    };
+    let other = figure(&mut number);
+    let told = [offset, other, other, !other];
     let words = words::of(refusal, &told);
     check.text(refusal, &told, &words, room(&mut number, &words));
 }

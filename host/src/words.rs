@@ -6,7 +6,8 @@ use qoi::Error;
 fn rusts(number: u64, told: &[u64; 4]) -> Option<Error> {
     let [a, b, c, _] = *told;
     Some(match number {
-        1 => Error::UnexpectedBufferEnd,
+        // with an offset it is of a record
+        1 if a == 0 => Error::UnexpectedBufferEnd,
         2 => Error::InvalidChannels {
             channels: a.try_into().ok()?,
         },
@@ -38,6 +39,7 @@ fn rusts(number: u64, told: &[u64; 4]) -> Option<Error> {
 fn by_hand(number: u64, told: &[u64; 4]) -> String {
     let [a, b, c, _] = told;
     match number {
+        1 => format!("record is bad at byte {a} (unexpected end)"),
         2 => format!("invalid number of channels: {a}"),
         3 => format!("invalid color space: {a} (expected 0 or 1)"),
         4 => {
@@ -46,7 +48,8 @@ fn by_hand(number: u64, told: &[u64; 4]) -> String {
         }
         5 => format!("invalid image dimensions: {a}x{b}"),
         6 => format!("invalid image length: {a} bytes for {b}x{c}"),
-        9 => "invalid decoder state or record".to_string(),
+        9 if *a == 0 => "invalid decoder state".to_string(),
+        9 => format!("record is bad at byte {a}"),
         10 => "invalid run (longer than the pixels left)".to_string(),
         11 => "invalid length (bytes after the stream end marker)".to_string(),
         12 => format!("record of another message: {a}"),
