@@ -19,6 +19,8 @@ enum Damage {
     RecordFlipped,
     RecordCut,
     RecordLonger,
+    /// One of the record's numbers is not in its shortest form; the file's sum fits, or not.
+    NumberSpoilt,
     /// The record, with its output, is the previous hour's, whose message has the same header: the number tells it, before the sum does.
     PreviousHour,
     /// The record is of another message, of any size.
@@ -33,10 +35,11 @@ enum Damage {
     OtherChannels,
 }
 
-const DAMAGES: [Damage; 10] = [
+const DAMAGES: [Damage; 11] = [
     Damage::RecordFlipped,
     Damage::RecordCut,
     Damage::RecordLonger,
+    Damage::NumberSpoilt,
     Damage::PreviousHour,
     Damage::OtherMessage,
     Damage::OtherBytes,
@@ -52,6 +55,8 @@ pub struct Refused {
     pub all: usize,
     /// Those that are of another message, and whole.
     pub other_messages: usize,
+    /// Those of which it must be told at which byte they are bad.
+    pub placed: usize,
 }
 
 /// Does each damage `times` times.
@@ -64,6 +69,7 @@ pub fn damage(bench: &Bench, random: &mut Random, times: usize) -> Result<Refuse
         refused(bench, &decode, &pair, &refusal).map_err(|words| format!("{damage:?}: {words}"))?;
         counts.all += 1;
         counts.other_messages += usize::from(refusal.status == OTHER_MESSAGE);
+        counts.placed += usize::from(refusal.words.contains(AT_BYTE));
     }
     Ok(counts)
 }
@@ -82,6 +88,11 @@ impl Refusal {
         }
     }
 
+    /// Of a record that is bad in the field, or after the fields, at this byte, as the reader ends its words.
+    fn bad_at(start: usize, end: &str) -> Self {
+        Self::bad(&format!("{DAMAGED} ({AT_BYTE} {start}{end});"))
+    }
+
     /// Of the record of the message with this number.
     fn other_message(number: u64) -> Self {
         Self {
@@ -91,7 +102,8 @@ impl Refusal {
     }
 }
 
-const DAMAGED: &str = "the record is damaged";
+const DAMAGED: &str = "the record is damaged, or names no message";
+const AT_BYTE: &str = "record is bad at byte";
 const OTHER_BYTES: &str = "the record is of other bytes under the same number";
 
 impl Damage {
@@ -106,12 +118,29 @@ impl Damage {
                 Refusal::bad(DAMAGED)
             }
             Self::RecordCut => {
+                let starts = field_starts(record);
                 record.truncate(random.below(record.len()));
-                Refusal::bad(DAMAGED)
+                // the last bytes stand where the sums do
+                let left = record.len().saturating_sub(2 * saved::SUM);
+                match starts.into_iter().rev().find(|&start| start <= left) {
+                    Some(start) => Refusal::bad_at(start, " (unexpected end)"),
+                    None => Refusal::bad(&format!("{DAMAGED};")),
+                }
             }
             Self::RecordLonger => {
+                let end = record.len() - 2 * saved::SUM;
                 record.push(random.next() as u8);
-                Refusal::bad(DAMAGED)
+                Refusal::bad_at(end, "")
+            }
+            Self::NumberSpoilt => {
+                let [wanted, position, pixel, .., number] = field_starts(record);
+                let start = *random.pick(&[wanted, position, pixel, number]);
+                record.splice(start..=last_byte(record, start), [0x80, 0]);
+                if random.one_in(2) {
+                    record.truncate(record.len() - saved::SUM);
+                    saved::add_sum(record);
+                }
+                Refusal::bad_at(start, "")
             }
             Self::PreviousHour => {
                 let previous = decode.number;
@@ -150,6 +179,22 @@ impl Damage {
             }
         }
     }
+}
+
+/// Where the fields of a record start that follow its header: three numbers, the current pixel, the slots, a number.
+fn field_starts(record: &[u8]) -> [usize; 6] {
+    let wanted = 14;
+    let position = last_byte(record, wanted) + 1;
+    let pixel = last_byte(record, position) + 1;
+    let current = last_byte(record, pixel) + 1;
+    let slots = current + 4;
+    [wanted, position, pixel, current, slots, slots + 256]
+}
+
+/// Where the last byte of a number stands, which alone has not its top bit set.
+fn last_byte(record: &[u8], start: usize) -> usize {
+    let more = record[start..].iter().take_while(|&&byte| byte >= 0x80);
+    start + more.count()
 }
 
 fn other(channels: Channels) -> Channels {

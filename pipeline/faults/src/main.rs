@@ -108,9 +108,9 @@ fn tried(given: &Given) -> Result<(), String> {
     );
     let damages = damage::damage(&benches[0], &mut random, damages).map_err(kept)?;
     println!(
-        "damages: {} records and outputs that no worker left of this message, {} of them records of another one; \
-         each refused, left as it was, and begun anew",
-        damages.all, damages.other_messages
+        "damages: {} records and outputs that no worker left of this message, {} of them records of another one, \
+         {} told at which byte they are bad; each refused, left as it was, and begun anew",
+        damages.all, damages.other_messages, damages.placed
     );
     let table = TableBench::new(&given.worker, &given.folder.join("month"))?;
     let months =

@@ -2,7 +2,7 @@
 use crate::pictures::{as_delivered, message, Family, FAMILIES};
 use crate::random::Random;
 use pivotshade::{decode_header, Channels, Decoder, Error, Header, Record};
-use worker::saved;
+use worker::saved::{self, NoRecord};
 
 /// A message with its number, the channels to decode it to, and what its undisturbed decode does.
 pub struct Undisturbed {
@@ -165,7 +165,7 @@ fn found_of(decodes: &[&Undisturbed], saved: &[u8]) -> Result<(usize, Record), S
     for (place, decode) in decodes.iter().enumerate() {
         match saved::from_bytes(saved, decode.number) {
             Ok((record, sum)) if decode.is_of(&record, sum) => return Ok((place, record)),
-            Ok(_) | Err(Error::OtherMessage { .. }) => {}
+            Ok(_) | Err(NoRecord::Refused(Error::OtherMessage { .. })) => {}
             Err(_) => {
                 let length = saved.len();
                 return Err(format!("the record of {length} bytes is no whole one"));

@@ -8,7 +8,8 @@ use std::path::Path;
 use worker::decode::Job;
 use worker::disk::Disk;
 use worker::failure::Failure;
-use worker::{saved, table};
+use worker::saved::{self, NoRecord};
+use worker::table;
 
 /// What a worker does wrong.
 #[derive(Clone, Copy, PartialEq)]
@@ -96,7 +97,7 @@ impl<'a> WrongDisk<'a> {
     /// A record's file; where it is of another message, as it would be of the one that is to be decoded.
     fn relabelled_record(&self, bytes: Vec<u8>, job: &Job) -> io::Result<Vec<u8>> {
         let number = match saved::from_bytes(&bytes, job.number) {
-            Err(Error::OtherMessage { number }) => number,
+            Err(NoRecord::Refused(Error::OtherMessage { number })) => number,
             _ => return Ok(bytes),
         };
         let (record, _) = saved::from_bytes(&bytes, number).expect("it names this number");

@@ -6,7 +6,7 @@ use crate::beside;
 use crate::disk::{folder, read_if_there, Disk};
 use crate::failure::Failure;
 use crate::memory::zeros;
-use crate::saved;
+use crate::saved::{self, NoRecord};
 use pivotshade::{decode_header, run, start, Channels, Error, Ran, Record};
 use std::io::{self, ErrorKind};
 use std::path::PathBuf;
@@ -217,9 +217,13 @@ fn saved_record<D: Disk>(
         Some(bytes) => bytes,
         None => return Ok(None),
     };
-    let (record, sum) = saved::from_bytes(&bytes, job.number).map_err(|error| match error {
-        Error::OtherMessage { number } => Failure::other_message(&job.record, number),
-        _ => bad("the record is damaged, or names no message"),
+    let damaged = |told| Failure::damaged_record(&job.record, told);
+    let (record, sum) = saved::from_bytes(&bytes, job.number).map_err(|none| match none {
+        NoRecord::Refused(Error::OtherMessage { number }) => {
+            Failure::other_message(&job.record, number)
+        }
+        NoRecord::Refused(error) => damaged(Some(error)),
+        NoRecord::Damaged { bad_at } => damaged(bad_at),
     })?;
     if sum != message_sum || record.header() != first.header() {
         return Err(bad("the record is of other bytes under the same number"));

@@ -45,6 +45,13 @@ impl Failure {
         }
     }
 
+    /// The record at `path` is damaged, or names no message; and what the reader told of it.
+    pub fn damaged_record(path: &Path, told: Option<Error>) -> Self {
+        let told = told.map_or(String::new(), |error| format!(" ({error})"));
+        let words = format!("the record is damaged, or names no message{told}");
+        Self::bad_record(path, &words)
+    }
+
     /// The record at `path` is of the message with this number, which is another one.
     pub fn other_message(path: &Path, number: u64) -> Self {
         Self {

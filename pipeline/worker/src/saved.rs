@@ -1,6 +1,6 @@
 //! What stands in the record's file: the record's bytes, a sum over the message, and a sum over both, eight bytes each, the lowest first. So a
 //! record that was damaged, or saved for other bytes under the same number, is told from a good one, which the record alone cannot do.
-use pivotshade::{Error, Record, Result};
+use pivotshade::{Error, Record};
 
 /// Bytes of a sum.
 pub const SUM: usize = 8;
@@ -13,12 +13,36 @@ pub fn to_bytes(record: &Record, message_sum: u64) -> Vec<u8> {
     bytes
 }
 
-/// The record of the message that came under `number`, and the sum of that message. Refused as [`Record::from_bytes`], and with
-/// [`Error::BadState`] where a byte of the file is not what was written.
-pub fn from_bytes(bytes: &[u8], number: u64) -> Result<(Record, u64)> {
-    let parts = before_sum(bytes).and_then(split_sum);
-    let (record, message_sum) = parts.ok_or(Error::BadState)?;
-    Ok((Record::from_bytes(record, number)?, message_sum))
+/// Why a file gives no record.
+#[derive(Clone, Copy, Debug, PartialEq, Eq)]
+pub enum NoRecord {
+    /// The file is what was written, and the reader refuses the record in it.
+    Refused(Error),
+    /// A byte of the file is not what was written: a sum does not fit.
+    Damaged {
+        /// What the reader says of the bytes where the record stands, if it tells at which of them they are bad.
+        bad_at: Option<Error>,
+    },
+}
+
+/// The record of the message that came under `number`, and the sum of that message. Refused as [`Record::from_bytes`], or as damaged.
+pub fn from_bytes(bytes: &[u8], number: u64) -> Result<(Record, u64), NoRecord> {
+    let (record, message_sum) = before_sum(bytes)
+        .and_then(split_sum)
+        .ok_or_else(|| as_damaged(bytes, number))?;
+    let record = Record::from_bytes(record, number).map_err(NoRecord::Refused)?;
+    Ok((record, message_sum))
+}
+
+/// What is said of a file whose sum does not fit.
+fn as_damaged(bytes: &[u8], number: u64) -> NoRecord {
+    let record = &bytes[..bytes.len().saturating_sub(2 * SUM)];
+    let tells_where =
+        |error: &Error| matches!(error, Error::CutRecord { .. } | Error::BadRecord { .. });
+    let refused = Record::from_bytes(record, number).err();
+    NoRecord::Damaged {
+        bad_at: refused.filter(tells_where),
+    }
 }
 
 /// Adds a sum at the end, over all that stands before it.
@@ -93,12 +117,54 @@ pub(crate) mod tests {
         let good = to_bytes(&record, sum(&message));
         assert_eq!(from_bytes(&good, 17), Ok((record, sum(&message))));
         let other = Error::OtherMessage { number: 17 };
-        assert_eq!(from_bytes(&good, 16), Err(other));
+        assert_eq!(from_bytes(&good, 16), Err(NoRecord::Refused(other)));
         for (what, bad) in damaged(&good) {
             // the damage comes before the number, whichever is expected
             for number in [16, 17] {
-                assert_eq!(from_bytes(&bad, number), Err(Error::BadState), "{what}");
+                let refused = from_bytes(&bad, number);
+                let is_damage = matches!(refused, Err(NoRecord::Damaged { .. }));
+                assert!(is_damage, "{what}: {refused:?}");
             }
+        }
+    }
+
+    /// A file of a record whose numbers are a byte each, with these bytes in the place of the one at `at`; and whether its sums fit again.
+    fn spoilt(at: usize, bytes: &[u8], fits: bool) -> Vec<u8> {
+        let message = encode_to_vec([1, 2, 3, 4], 1, 1).unwrap();
+        let record = start(&message, 17, Channels::Rgba).unwrap();
+        let mut file = to_bytes(&record, sum(&message));
+        file.splice(at..at + 1, bytes.iter().copied());
+        if fits {
+            file.truncate(file.len() - SUM);
+            add_sum(&mut file);
+        }
+        file
+    }
+
+    #[test]
+    fn the_spoilt_number_is_told_whether_the_sums_fit_or_not() {
+        for at in [14, 15, 16, 277] {
+            let error = Error::BadRecord { at };
+            let not_shortest = [0x80, 0];
+            let refused = from_bytes(&spoilt(at, &not_shortest, true), 17);
+            assert_eq!(refused, Err(NoRecord::Refused(error)));
+            let refused = from_bytes(&spoilt(at, &not_shortest, false), 17);
+            let bad_at = Some(error);
+            assert_eq!(refused, Err(NoRecord::Damaged { bad_at }));
+        }
+    }
+
+    /// In the slots a damage leaves a record; of a header's, and of another number, no byte is told.
+    #[test]
+    fn a_damage_that_the_reader_does_not_place() {
+        for (at, byte) in [(0, b'p'), (12, 5), (14, 5), (100, 9), (277, 16)] {
+            let refused = from_bytes(&spoilt(at, &[byte], false), 17);
+            assert_eq!(refused, Err(NoRecord::Damaged { bad_at: None }), "{at}");
+        }
+        let short = [0; 2 * SUM + 13];
+        for length in 0..=short.len() {
+            let refused = from_bytes(&short[..length], 17);
+            assert_eq!(refused, Err(NoRecord::Damaged { bad_at: None }));
         }
     }
 
@@ -109,8 +175,9 @@ pub(crate) mod tests {
         let (_, without) = record.as_bytes().split_last().unwrap();
         let mut bytes = [without, &sum(&message).to_le_bytes()].concat();
         add_sum(&mut bytes);
-        let refused = from_bytes(&bytes, 17);
-        assert_eq!(refused, Err(Error::UnexpectedBufferEnd));
+        let at = without.len().try_into().unwrap();
+        let refused = NoRecord::Refused(Error::CutRecord { at });
+        assert_eq!(from_bytes(&bytes, 17), Err(refused));
     }
 
     #[test]

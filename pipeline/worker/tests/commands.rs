@@ -154,32 +154,91 @@ fn a_refused_header_leaves_no_file() {
     assert_eq!(folder.names(), ["m.qoi"]);
 }
 
+/// The words for a damaged record, of which the reader tells this.
+fn damaged(told: &str) -> String {
+    format!("rec: the record is damaged, or names no message{told}; --restart begins anew")
+}
+
 #[test]
 fn a_damaged_record_is_refused_and_restarted() {
-    let words = "rec: the record is damaged, or names no message; --restart begins anew";
     let good = decoded("damaged-good").read("rec");
+    // within the slots, where every byte may stand
     let mut flipped = good.clone();
     flipped[100] ^= 4;
     // the number, a byte, stands before the two sums
     let mut unnamed = good[..good.len() - saved::SUM].to_vec();
     unnamed.remove(unnamed.len() - saved::SUM - 1);
     saved::add_sum(&mut unnamed);
-    for (place, bad) in [&flipped, &unnamed, &good[1..], &good[..good.len() - 1], b""]
-        .into_iter()
-        .enumerate()
-    {
+    let no_number = " (record is bad at byte 279 (unexpected end))";
+    let damages: [(&[u8], &str); 6] = [
+        (&flipped, ""),
+        (&unnamed, no_number),
+        (&good[1..], ""),
+        (&good[..good.len() - 1], no_number),
+        (&[&good[..], &[0]].concat(), " (record is bad at byte 280)"),
+        (b"", ""),
+    ];
+    for (place, (bad, told)) in damages.into_iter().enumerate() {
+        let words = damaged(told);
         let folder = decoded(&format!("damaged-{place}"));
         folder.write("rec", bad);
         folder.write("out", &[0xee; 4800]);
         // whichever message is asked for
         for line in [DECODE, DECODE_NEXT] {
-            folder.refuses(line, 9, words);
+            folder.refuses(line, 9, &words);
             assert_eq!(folder.read("out"), [0xee; 4800]);
             assert_eq!(folder.read("rec"), bad);
         }
         folder.works(&format!("{DECODE} --restart"));
         assert_eq!(folder.read("out"), picture());
         assert_eq!(folder.read("rec"), good);
+    }
+}
+
+/// Which number is bad is told by where it starts, whether the sums of the file fit or not.
+#[test]
+fn the_bad_number_of_a_record_is_told() {
+    let good = decoded("number-good").read("rec");
+    assert_eq!(good.len(), 280 + 2 * saved::SUM);
+    // the pixel position, 1200
+    assert_eq!(good[17..19], [0xb0, 0x09]);
+    for (start, last) in [(14, 14), (15, 16), (17, 18), (279, 279)] {
+        // a group of zeros put in at its end: not the shortest form
+        let mut bad = good.clone();
+        bad[last] |= 0x80;
+        bad.insert(last + 1, 0);
+        let mut fitting = bad[..bad.len() - saved::SUM].to_vec();
+        saved::add_sum(&mut fitting);
+        for (place, bad) in [fitting, bad].iter().enumerate() {
+            let folder = decoded(&format!("number-{start}-{place}"));
+            folder.write("rec", bad);
+            let words = damaged(&format!(" (record is bad at byte {start})"));
+            for line in [DECODE, DECODE_NEXT] {
+                folder.refuses(line, 9, &words);
+            }
+            assert_eq!((&folder.read("rec"), folder.read("out")), (bad, picture()));
+        }
+    }
+}
+
+/// Where the sums fit, whatever the reader refuses is told.
+#[test]
+fn what_the_reader_refuses_is_told() {
+    let good = decoded("refused-good").read("rec");
+    for (at, byte, told) in [
+        (
+            0,
+            b'p',
+            "invalid magic: expected 1903126886, got [112, 111, 105, 102]",
+        ),
+        (14, 5, "invalid number of channels: 5"),
+    ] {
+        let mut bad = good[..good.len() - saved::SUM].to_vec();
+        bad[at] = byte;
+        saved::add_sum(&mut bad);
+        let folder = decoded(&format!("refused-{at}"));
+        folder.write("rec", &bad);
+        folder.refuses(DECODE, 9, &damaged(&format!(" ({told})")));
     }
 }
 
