@@ -1,6 +1,6 @@
 /* A decode that two workers share, through include/pivotshade.h alone: the first is cut off, the second goes on from the record that it left, over
-   an output whose rest holds other bytes; the picture must come out whole. A worker with the next message is refused that record. The strict check and
-   the words of a refusal come first. `./test` builds and runs it. */
+   an output whose rest holds other bytes; the picture must come out whole. A worker with the next message is refused that record, and one that finds
+   it cut short is told where. The strict check and the words of a refusal come first. `./test` builds and runs it. */
 #include "pivotshade.h"
 
 #include <stdio.h>
@@ -94,6 +94,8 @@ int main(void)
 
     number = pivotshade_run(msg, len, NUMBER + 1, record, n, out, SIZE, 100, next, sizeof next, figures);
     expect(number == 12 && figures[0] == NUMBER, "for the next message the record is refused with 12, and its own number told");
+    number = pivotshade_run(msg, len, NUMBER, record, n - 1, out, SIZE, 100, next, sizeof next, figures);
+    expect(number == 1 && figures[0] == n - 1, "without the message's number, its last byte, the record is refused with 1, and told where that starts");
 
     memset(out + done * CHANNELS, 0xee, SIZE - done * CHANNELS);
     expect(work(msg, len, record, &n, out, PIXELS), "the second worker ends the decode");

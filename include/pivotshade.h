@@ -1,11 +1,12 @@
 /* The functions that a host calls. Each returns 0 or the number of a refusal (pivotshade_run also 256, pivotshade_count also 257), and fills its last
    part, four figures: the accepted answer's, or the refusal's, zeros after them. The numbers and their figures:
-     1 input ended                           5 dimensions {width, height}             8 no marker after the last pixel
-     2 channels {channels}                   6 image length {size, width, height}     9 bad state or record
+     1 input ended {offset}                  5 dimensions {width, height}             8 no marker after the last pixel
+     2 channels {channels}                   6 image length {size, width, height}     9 bad record {offset}
      3 colour space {byte}                   7 output too small {size, required}     10 run past the image (strict)
      4 magic {magic}                                                                 11 bytes after the marker (strict)
     12 record of another message {number}
     19 hour {hour}                          20 number of cells {pixels, cells}       21 total too large {cell}
+   The offset of 1 and 9 is that of the bad field in a record (see pivotshade_run). 1 has none, and so 0, where it is of anything else.
    Parts that are lent to one call do not overlap, and each pointer is good for its length; figures has room for four numbers. */
 #ifndef PIVOTSHADE_H
 #define PIVOTSHADE_H
@@ -66,11 +67,17 @@ uint64_t pivotshade_start(const uint8_t *msg, size_t len, uint64_t number, uint6
    Whose refusal it is, and what it leaves:
    - 2, 3, 4, 5 and 9 are the record's; out is as it was.
    - 12 is the record's: it is whole, and names another message, whose number is the figure. out is as it was.
-   - 1 is the record's, cut short, or the message's: a call with 0 steps tells which.
+   - 1 is the record's, cut short, or the message's. With an offset it is the record's, and out is as it was; with 0 it is the message's, or that
+     of a record whose header is cut, which is at its byte 0. A host that wants to tell these two apart looks at the record's length: under 14.
    - 1 and 8 of the message leave out as pivotshade_decode leaves it.
    - 7 is out's, which is then as it was. Where next has less than PIVOTSHADE_RECORD_MAX bytes it may be next's: then the steps are done, and
      stand in out.
    After any of them the same record may be handed in again.
+
+   Where a record is bad, the first figure of 1 and 9. Its fields are the header, 14 bytes; the numbers wanted, byte position and pixel position;
+   the current pixel, 4 bytes; the slots, 256 bytes; the message's number. The figure is where the field starts that is cut short (1), or that is
+   a number not in its shortest form or past 2^64-1 (9). Where each field can be read, it is where the first of these starts (9): a byte position
+   under 14; a pixel position above the pixels; with 3 wanted, a current pixel whose fourth byte is not 255; bytes after the message's number.
 
    A host that keeps its output in a file writes there only from the record's pixel on, and saves the next record after that is flushed. The
    pixel is the third number after a record's 14 header bytes, seven bits a byte, the lowest first, the top bit set on all but its last byte;
