@@ -64,7 +64,7 @@ pub enum Error {
     InvalidPadding,
     /// A record that is cut short after its header (added).
     CutRecord {
-        /// Where in the record the field that is cut starts; an offset of 0 is `UnexpectedBufferEnd`, so no two refusals have one number and figures.
+        /// Where in the record the field starts that is cut. By its type never 0, which is `UnexpectedBufferEnd`: number and figures tell the refusal.
         at: NonZeroUsize,
     },
     /// Bytes that are no record (added).
