@@ -126,7 +126,7 @@ struct Reader<'a> {
 }
 
 impl Reader<'_> {
-    /// A field of so many bytes.
+    /// A field of N bytes.
     fn array<const N: usize>(&mut self) -> Result<[u8; N], Answer> {
         let start = self.place;
         let field = self.bytes.get(start..start + N).ok_or(cut_at(start))?;

@@ -90,7 +90,7 @@ impl Refusal {
 
     /// Of a record that is bad in the field, or after the fields, at this byte, as the reader ends its words.
     fn bad_at(start: usize, end: &str) -> Self {
-        Self::bad(&format!("{DAMAGED} ({AT_BYTE} {start}{end});"))
+        Self::bad(&format!("{DAMAGED}: {AT_BYTE} {start}{end};"))
     }
 
     /// Of the record of the message with this number.
@@ -122,10 +122,8 @@ impl Damage {
                 record.truncate(random.below(record.len()));
                 // the last bytes stand where the sums do
                 let left = record.len().saturating_sub(2 * saved::SUM);
-                match starts.into_iter().rev().find(|&start| start <= left) {
-                    Some(start) => Refusal::bad_at(start, " (unexpected end)"),
-                    None => Refusal::bad(&format!("{DAMAGED};")),
-                }
+                let cut = starts.into_iter().rev().find(|&start| start <= left);
+                Refusal::bad_at(cut.unwrap_or(0), " (unexpected end)")
             }
             Self::RecordLonger => {
                 let end = record.len() - 2 * saved::SUM;

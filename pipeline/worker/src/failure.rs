@@ -47,7 +47,12 @@ impl Failure {
 
     /// The record at `path` is damaged, or names no message; and what the reader told of it.
     pub fn damaged_record(path: &Path, told: Option<Error>) -> Self {
-        let told = told.map_or(String::new(), |error| format!(" ({error})"));
+        let told = match told {
+            None => String::new(),
+            // a record ends without an offset in its header alone, which is at its byte 0
+            Some(Error::UnexpectedBufferEnd) => ": record is bad at byte 0 (unexpected end)".into(),
+            Some(error) => format!(": {error}"),
+        };
         let words = format!("the record is damaged, or names no message{told}");
         Self::bad_record(path, &words)
     }

@@ -37,8 +37,7 @@ pub fn from_bytes(bytes: &[u8], number: u64) -> Result<(Record, u64), NoRecord> 
 /// What is said of a file whose sum does not fit.
 fn as_damaged(bytes: &[u8], number: u64) -> NoRecord {
     let record = &bytes[..bytes.len().saturating_sub(2 * SUM)];
-    let tells_where =
-        |error: &Error| matches!(error, Error::CutRecord { .. } | Error::BadRecord { .. });
+    let tells_where = |error: &Error| matches!(error.number(), 1 | 9);
     let refused = Record::from_bytes(record, number).err();
     NoRecord::Damaged {
         bad_at: refused.filter(tells_where),
@@ -161,10 +160,15 @@ pub(crate) mod tests {
             let refused = from_bytes(&spoilt(at, &[byte], false), 17);
             assert_eq!(refused, Err(NoRecord::Damaged { bad_at: None }), "{at}");
         }
+    }
+
+    #[test]
+    fn a_cut_header_is_told() {
         let short = [0; 2 * SUM + 13];
+        let bad_at = Some(Error::UnexpectedBufferEnd);
         for length in 0..=short.len() {
             let refused = from_bytes(&short[..length], 17);
-            assert_eq!(refused, Err(NoRecord::Damaged { bad_at: None }));
+            assert_eq!(refused, Err(NoRecord::Damaged { bad_at }));
         }
     }
 

@@ -169,14 +169,14 @@ fn a_damaged_record_is_refused_and_restarted() {
     let mut unnamed = good[..good.len() - saved::SUM].to_vec();
     unnamed.remove(unnamed.len() - saved::SUM - 1);
     saved::add_sum(&mut unnamed);
-    let no_number = " (record is bad at byte 279 (unexpected end))";
+    let no_number = ": record is bad at byte 279 (unexpected end)";
     let damages: [(&[u8], &str); 6] = [
         (&flipped, ""),
         (&unnamed, no_number),
         (&good[1..], ""),
         (&good[..good.len() - 1], no_number),
-        (&[&good[..], &[0]].concat(), " (record is bad at byte 280)"),
-        (b"", ""),
+        (&[&good[..], &[0]].concat(), ": record is bad at byte 280"),
+        (b"", ": record is bad at byte 0 (unexpected end)"),
     ];
     for (place, (bad, told)) in damages.into_iter().enumerate() {
         let words = damaged(told);
@@ -212,7 +212,7 @@ fn the_bad_number_of_a_record_is_told() {
         for (place, bad) in [fitting, bad].iter().enumerate() {
             let folder = decoded(&format!("number-{start}-{place}"));
             folder.write("rec", bad);
-            let words = damaged(&format!(" (record is bad at byte {start})"));
+            let words = damaged(&format!(": record is bad at byte {start}"));
             for line in [DECODE, DECODE_NEXT] {
                 folder.refuses(line, 9, &words);
             }
