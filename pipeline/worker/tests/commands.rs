@@ -238,7 +238,7 @@ fn what_the_reader_refuses_is_told() {
         saved::add_sum(&mut bad);
         let folder = decoded(&format!("refused-{at}"));
         folder.write("rec", &bad);
-        folder.refuses(DECODE, 9, &damaged(&format!(" ({told})")));
+        folder.refuses(DECODE, 9, &damaged(&format!(": {told}")));
     }
 }
 
