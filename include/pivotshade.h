@@ -80,9 +80,8 @@ uint64_t pivotshade_start(const uint8_t *msg, size_t len, uint64_t number, uint6
    under 14; a pixel position above the pixels; with 3 wanted, a current pixel whose fourth byte is not 255; bytes after the message's number.
 
    A host that keeps its output in a file writes there only from the record's pixel on, and saves the next record after that is flushed. The
-   pixel is the third number after a record's 14 header bytes, seven bits a byte, the lowest first, the top bit set on all but its last byte;
-   its first byte in out is that number times the wanted channels, which are the first number. The message's number stands, in the same form,
-   260 bytes after the pixel, and ends the record. */
+   pixel is the pixel position, and its first byte in out that number times wanted, which is the channels. A number of a record has seven bits a
+   byte, the lowest first, and the top bit set on all but its last byte. */
 #define PIVOTSHADE_MORE 256
 uint64_t pivotshade_run(const uint8_t *msg, size_t len, uint64_t number, const uint8_t *record, size_t record_len, uint8_t *out, size_t out_len,
                         uint64_t steps, uint8_t *next, size_t next_len, uint64_t figures[4]);

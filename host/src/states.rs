@@ -36,7 +36,7 @@ struct State {
     /// The line that the program must print.
     line: String,
     adds_up: bool,
-    /// Whether its record is refused, and where.
+    /// Whether its record has a fault of state.
     is_faulty: bool,
 }
 

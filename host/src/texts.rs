@@ -61,7 +61,7 @@ const OF_A_RECORD: [u64; 2] = [1, 9];
 /// Each place in a record and the one after it.
 const PLACES: u64 = LONGEST as u64 + 1;
 
-pub const OFFSETS: u64 = ROOMS * 2 * (PLACES + FIGURES) * FIGURES;
+pub const OFFSETS: u64 = ROOMS * OF_A_RECORD.len() as u64 * (PLACES + FIGURES) * FIGURES;
 
 /// Each offset that a record can be bad at, and figures at range ends; before figures that do not matter.
 pub fn offsets(check: &mut Check, mut number: u64) {

@@ -35,7 +35,7 @@
 //! - [`strict()`]: whether a message has nothing that a decode would pass over.
 //! - Rain totals: a [`Table`] for a month, and [`Table::count`], which adds an hour's frame to it once, however often it comes.
 //! - [`rest`] and [`Decoder::data`]: what follows a message.
-//! - [`Error::number`] and [`Error::figures`], and eight refusals; [`Error::CutRecord`] and [`Error::BadRecord`] say where a record is bad.
+//! - [`Error::number`] and [`Error::figures`], and eight variants; [`Error::CutRecord`] and [`Error::BadRecord`] say where a record is bad.
 //!
 //! # What differs from crate qoi
 //!

@@ -295,8 +295,14 @@ fn damaged_in_every_byte() {
                 }
                 Err(error) => {
                     assert!([1, 2, 3, 4, 5, 9, 12].contains(&error.number()));
-                    if let Error::BadRecord { at } = error {
-                        assert!((WANTED..=length).contains(&at));
+                    match error {
+                        Error::BadRecord { at: start } => {
+                            assert!((WANTED..length).contains(&start));
+                        }
+                        Error::CutRecord { at: start } => {
+                            assert!((WANTED..=length).contains(&start.get()));
+                        }
+                        _ => {}
                     }
                     refused += 1;
                 }

@@ -25,11 +25,14 @@ byteAt bytes start = getD bytes start 0
 abbrev pub after : List ℕ → ℕ → List ℕ
 after bytes start = take (length bytes - (start + 1)) (drop (start + 1) bytes)
 
+-- which is all that stands after that byte
+all-after : (bytes : List ℕ) (start : ℕ) → after bytes start ≡ drop (start + 1) bytes
+all-after bytes start =
+    take-all (length bytes - (start + 1)) (drop (start + 1) bytes) (omega (arith, length-drop (start + 1) bytes))
+
 -- what stands from an offset on is the byte there and those after it
 from-there : (bytes : List ℕ) (start : ℕ) → start < length bytes → drop start bytes ≡ byteAt bytes start ∷ after bytes start
-from-there bytes start inside =
-    let all = take-all (length bytes - (start + 1)) (drop (start + 1) bytes) (omega (arith, length-drop (start + 1) bytes)) in
-    drop-cons bytes start 0 inside ∙ rw (all, add-one start)
+from-there bytes start inside = drop-cons bytes start 0 inside ∙ rw (all-after bytes start, add-one start)
 
 pub number-empty : (bytes : List ℕ) (start : ℕ) → length bytes ≤ start → readNumber bytes start ≡ read.Refused (UnexpectedBufferEnd start)
 unfolding readNumber readFirst
@@ -64,8 +67,7 @@ more-first start more [] follow some = absurd (some refl)
 more-first start zero (byte ∷ bytes) follow some = absurd (follow refl)
 more-first start (suc more) (byte ∷ bytes) follow some =
     let fewer : suc more - 1 ≡ more = omega arith in
-    let all : after (byte ∷ bytes) 0 ≡ bytes = take-all (suc (length bytes) - 1) bytes (omega arith) in
-    rw (all, fewer)
+    rw (all-after (byte ∷ bytes) 0, fewer)
 
 fits-of : (byte more : ℕ) (bytes : List ℕ) (rest : NumberRead) → 128 ≤ byte → more ≤ 8
     → Within (2 * 128 ^ more) (suc more) bytes rest → GroupFits byte rest
@@ -77,6 +79,5 @@ pub group-fits :
     (start more : ℕ) (bytes : List ℕ) (at : ℕ) → at < length bytes → 128 ≤ byteAt bytes at → more ≤ 8 → AllBytes bytes
     → GroupFits (byteAt bytes at) (readMore start more (after bytes at))
 group-fits start more bytes at inside high le are =
-    let all : after bytes at ≡ drop (at + 1) bytes = take-all (length bytes - (at + 1)) (drop (at + 1) bytes) (omega (arith, length-drop (at + 1) bytes)) in
-    rw all
+    rw (all-after bytes at)
     (fits-of (byteAt bytes at) more (drop (at + 1) bytes) (readMore start more (drop (at + 1) bytes)) high le (more-within start more (drop (at + 1) bytes) (dropped-bytes (at + 1) bytes are)))

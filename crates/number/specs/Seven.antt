@@ -34,7 +34,7 @@ readMore start (suc more) (byte ∷ rest) =
     cond (ltb byte 128) (cond (eqb byte 0) (read.Refused (BadState start)) (read.Number byte 1))
     (groupBelow byte (readMore start more rest))
 
--- all its bytes; only a number of one byte may be 00
+-- all bytes of a number that starts at `start`; only one of a single byte may be 00
 unfoldable pub readFirst : ℕ → List ℕ → NumberRead
 readFirst start [] = read.Refused (UnexpectedBufferEnd start)
 readFirst start (byte ∷ rest) = cond (ltb byte 128) (read.Number byte 1) (groupBelow byte (readMore start 8 rest))

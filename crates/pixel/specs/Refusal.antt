@@ -9,11 +9,11 @@ use lib.ListN.{getD}
 use Rattle.pixel.specs.declared.error.Error.{Error}
 use Rattle.pixel.specs.declared.error.Error.the-variants.{UnexpectedBufferEnd, InvalidChannels, InvalidColorSpace, InvalidMagic, InvalidImageDimensions, InvalidImageLength, OutputBufferTooSmall, InvalidPadding, BadState, RunPastImage, BytesAfterMarker, OtherMessage, InvalidHour, InvalidCellCount, TotalTooLarge}
 
--- 1 of anything but a record: no offset
+-- 1 with offset 0: of anything but a record, or of a record whose header is cut
 abbrev pub endedEarly : Error
 endedEarly = UnexpectedBufferEnd 0
 
--- 9 of a state: no offset
+-- 9 with offset 0: of a state
 abbrev pub badState : Error
 badState = BadState 0
 

@@ -19,7 +19,7 @@ magicParts magic =
     ∷ figure ", " (magic % 256)
     ∷ say "]" ∷ []
 
--- input that ended early: a record's has an offset
+-- input that ended early: a record's, past its header, has an offset
 abbrev pub endParts : ℕ → List Part
 endParts offset =
     cond (eqb offset 0) (say "unexpected input buffer end while decoding" ∷ [])

@@ -45,7 +45,7 @@ pub enum Error {
     },
     // What follows the last pixel is not the marker.
     InvalidPadding,
-    // A record that no state writes, with a fault in the field at this offset; or a state that is not well formed: 0.
+    // A record with a fault in the field at this offset, or with more bytes from there on; of a bad state it is 0.
     BadState {
         at: usize,
     },

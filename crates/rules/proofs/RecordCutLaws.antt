@@ -32,7 +32,7 @@ drop-take (suc o) (suc n) (x ∷ l) =
     let same : n - o ≡ suc n - suc o = omega arith in
     drop-take o n l ∙ ap (λ (k : ℕ). take k (drop o l)) same
 
--- of two tests, where each that fails is 1 at an offset
+-- of two tests, where each that holds is 1 at an offset
 picked :
     (a b : Bool) (x y z : ℕ) (r : Started) → (b ≡ false → r ≡ notStarted (UnexpectedBufferEnd z))
     → cond a (notStarted (UnexpectedBufferEnd x)) (cond b (notStarted (UnexpectedBufferEnd y)) r)
@@ -81,7 +81,7 @@ module _ (s : State) (typed : Typed s) (well : T (wellFormed s)) (expected n : �
   size-is : length (take n (recordBytes s)) ≡ n
   size-is = simp length-take (omega (arith, short))
 
-  -- the slots, and what follows them
+  -- the current pixel, and what follows it
   abbrev last : List ℕ
   last = s .place .current .rgba ++ (pixelsBytes (s .place .slots) ++ sevenBits (s .number))
 
@@ -111,14 +111,13 @@ module _ (s : State) (typed : Typed s) (well : T (wellFormed s)) (expected n : �
 
   -- the current pixel, the slots and the number are cut
   slots-cut :
-      currentOffset s ≤ n
-      → readSlots expected (s .header) (s .wanted) (s .place .at) (s .place .pixel) (take n (recordBytes s)) (currentOffset s)
+      readSlots expected (s .header) (s .wanted) (s .place .at) (s .place .pixel) (take n (recordBytes s)) (currentOffset s)
       ≡ notStarted
       (UnexpectedBufferEnd
       (cond (ltb n (currentOffset s + 4)) (currentOffset s)
       (cond (ltb n (currentOffset s + 260)) (currentOffset s + 4) (currentOffset s + 260))))
   unfolding readSlots afterNumber
-  slots-cut inside =
+  slots-cut =
       let start = currentOffset s + 260 in
       let cut : n < start + length (sevenBits (s .number)) = omega (arith, short, record-ends) in
       rw size-is
@@ -142,7 +141,7 @@ module _ (s : State) (typed : Typed s) (well : T (wellFormed s)) (expected n : �
       number-or-cut n (recordBytes s) (s .place .at) (atOffset s) _ (typed .at-fits) at-stands inside _ _
       (λ to-pixel.
       number-or-cut n (recordBytes s) (s .place .pixel) (pixelOffset s) _ (omega (arith, pixel-small s well)) pixel-stands to-pixel _ _
-      (λ to-current. rw same (slots-cut to-current)))
+      (λ to-current. rw same slots-cut))
 
   -- a record that is cut short is 1, where the field starts that is cut
   pub record-cut : readRecord expected (take n (recordBytes s)) ≡ notStarted (UnexpectedBufferEnd (cutOffset s n))

@@ -254,16 +254,16 @@ outputAfter s out (Step.end verdict) = out
 -- whether a case holds of the definitions
 unfoldable pub holds : Case → Bool
 unfolding sameTest stateOf stateAfter afterRun resumed checkpointed begun encodedSize startIs strictIs outputAfter slotOf
-    sevenBitsOf sevenBits groupBelow readMore readFirst readNumber headerBytes headerFrom afterColorSpace afterChannels headerOf
-    chunkFrom chunkAt colourOf timesOf sizeOf sameBytes repeated closing startPlace pixelsBrought pixelAfter
+    sevenBitsOf sevenBits groupBelow readMore readFirst readNumber headerBytes headerFrom afterColorSpace afterChannels
+    headerOf chunkFrom chunkAt colourOf timesOf sizeOf sameBytes repeated closing startPlace pixelsBrought pixelAfter
     placeAfter bytesOf moveBy move reading readingInto afterWanted afterHeader wholeReading decoderStores decoderKeeps
     decoderReadsRgba fitsDiff fitsLuma diffChunk lumaChunk colourChunk startPen runEnded slotHolds differingChunk
     pixelChunks penAfter chunksFrom chunkBytes chunksBytes pixelFrom pixelsFrom chunksOf streamOf encodingInto
     afterLength afterDimensions pictureHeader afterSpace afterPictureHeader encoding wellFormed startWanted startHeader
     starting stepBy step running pixelsBytes recordBytes recording recordedOver restOf afterNumber acceptNumber
-    faultOffset acceptState readSlots readPositions readWanted readRecord strictClosed strictClosing strictCounted strictBy
-    strictMove strictFrom strictHeader strict runsFitIn namesFilled filledAfter chunkDue indexesFilled visitsOn visits
-    headerTrace trace filledIn
+    faultOffset acceptState readSlots readPositions readWanted readRecord strictClosed strictClosing strictCounted
+    strictBy strictMove strictFrom strictHeader strict runsFitIn namesFilled filledAfter chunkDue indexesFilled visitsOn
+    visits headerTrace trace filledIn
 holds (streams width height channels colorspace picture stream) =
     let r = encoding picture width height colorspace 1000000 in
     let opened = accepted (width ∷ height ∷ channelsNumber channels ∷ colorspace ∷ []) in

@@ -508,7 +508,7 @@ recordRows =
     ∷ countsBack 3 (held 3 ++ (0x82 ∷ [])) (refusal 1 (3 ∷ []))
     -- also where nothing is left of it
     ∷ countsBack 3 (held 3) (refusal 1 (3 ∷ []))
-    -- or less than nothing
+    -- or it would start past the end
     ∷ countsBack largest (held 3) (refusal 1 (largest ∷ []))
     -- the shortest record, 278 bytes; bytes after it stay
     ∷ records (stateFrom 1 1 Rgb 7 3) 280 (accepted (278 ∷ []))

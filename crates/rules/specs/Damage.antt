@@ -16,8 +16,8 @@ cutOffset s n =
     (cond (ltb n (currentOffset s + 4)) (currentOffset s)
     (cond (ltb n (currentOffset s + 260)) (currentOffset s + 4) (currentOffset s + 260))))))
 
--- all that reading a record of `size` bytes answers. 1 carries 0 where the header is cut, else where the field starts
--- that is cut, past the header and at most at the end; 9 carries an offset past the header and before the end
+-- all that reading a record of `size` bytes answers. 1 carries 0 where the header is cut, else an offset past the
+-- header and at most at the end; 9 carries one past the header and before the end
 pub data Told (size : ℕ) : Started → Type 0 where
   taken : (s : State) → Told size (started s)
   header-cut : size < 14 → Told size (notStarted (UnexpectedBufferEnd 0))

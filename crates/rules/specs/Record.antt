@@ -83,8 +83,8 @@ currentOffset s = pixelOffset s + length (sevenBits (s .place .pixel))
 unfoldable pub faultOffset : State → ℕ
 faultOffset s = cond (atPasses s) (cond (pixelPasses s) (currentOffset s) (pixelOffset s)) (atOffset s)
 
--- after the number, which ends a record of this size: the other faults of state, 9 at the first; extra bytes, 9 where
--- they begin
+-- after the number, which ends at `end` of a record of `size` bytes: the other faults of state, 9 at the first; extra
+-- bytes, 9 where they begin
 unfoldable pub acceptState : ℕ → State → ℕ → ℕ → Started
 acceptState expected s end size =
     cond (wellFormed s) (cond (eqb end size) (acceptNumber expected s) (notStarted (BadState end)))
@@ -129,7 +129,7 @@ readWanted expected (header-read.Ok header) bytes =
     afterNumber 14 (readNumber bytes 14) (λ wanted next. readPositions expected header (channelsFrom wanted) bytes next)
 
 -- reading a record, given the message's number that is expected: header; numbers, cut 1 or not shortest 9; wanted 2 at
--- its place; slots; the number; the faults of state; extra bytes; another number. Each 1 and 9 carries the offset of the
--- field that is cut or has the fault: a cut header's is 0
+-- its place; slots; the number; the faults of state; extra bytes; another number. Each 1 and 9 carries the offset of
+-- the field that is cut or has the fault: a cut header's is 0
 unfoldable pub readRecord : ℕ → List ℕ → Started
 readRecord expected bytes = readWanted expected (headerOf bytes) bytes
