@@ -107,8 +107,9 @@ more-read-written start zero n rest some fits =
 more-read-written start (suc more) n rest some fits =
     by-size n (λ low. rw (last-byte (suc more) n low, lt-ltb n 128 low, ne-eqb n 0 (omega arith)))
     (λ high.
-    rw (next-byte more n high, le-ltb (128 + n % 128) 128 (omega arith), more-read-written start more (n / 128) rest (omega arith) (omega (arith, pow-suc 128 more)))
-    (below-written n (length (sevenBitsOf more (n / 128)))))
+    rw (next-byte more n high, le-ltb (128 + n % 128) 128 (omega arith))
+    (ap (groupBelow (128 + n % 128)) (more-read-written _ more (n / 128) rest (omega arith) (omega (arith, pow-suc 128 more)))
+    ∙ below-written n (length (sevenBitsOf more (n / 128)))))
 
 -- all its bytes read back
 first-read-written :
@@ -117,8 +118,9 @@ unfolding readFirst sevenBits
 first-read-written start n rest fits =
     by-size n (λ low. rw (last-byte 9 n low, lt-ltb n 128 low))
     (λ high.
-    rw (next-byte 8 n high, le-ltb (128 + n % 128) 128 (omega arith), more-read-written start 8 (n / 128) rest (omega arith) (omega arith))
-    (below-written n (length (sevenBitsOf 8 (n / 128)))))
+    rw (next-byte 8 n high, le-ltb (128 + n % 128) 128 (omega arith))
+    (ap (groupBelow (128 + n % 128)) (more-read-written _ 8 (n / 128) rest (omega arith) (omega arith))
+    ∙ below-written n (length (sevenBitsOf 8 (n / 128)))))
 
 -- where a number stands written
 module _ (n start : ℕ) (bytes rest : List ℕ) (stands : drop start bytes ≡ sevenBits n ++ rest) where
@@ -141,7 +143,8 @@ more-cut start (suc more) n (suc k) some fits cut =
     by-size n (λ low. absurd (omega (arith, cut, ap length (last-byte (suc more) n low))))
     (λ high.
     let fewer : k < length (sevenBitsOf more (n / 128)) = omega (arith, cut, ap length (next-byte more n high)) in
-    rw (next-byte more n high, le-ltb (128 + n % 128) 128 (omega arith), more-cut start more (n / 128) k (omega arith) (omega (arith, pow-suc 128 more)) fewer))
+    rw (next-byte more n high, le-ltb (128 + n % 128) 128 (omega arith))
+    (ap (groupBelow (128 + n % 128)) (more-cut _ more (n / 128) k (omega arith) (omega (arith, pow-suc 128 more)) fewer)))
 
 -- of all its bytes
 first-cut : (start n k : ℕ) → n < 2 ^ 64 → k < length (sevenBits n)
@@ -152,7 +155,8 @@ first-cut start n (suc k) fits cut =
     by-size n (λ low. absurd (omega (arith, cut, ap length (last-byte 9 n low))))
     (λ high.
     let fewer : k < length (sevenBitsOf 8 (n / 128)) = omega (arith, cut, ap length (next-byte 8 n high)) in
-    rw (next-byte 8 n high, le-ltb (128 + n % 128) 128 (omega arith), more-cut start 8 (n / 128) k (omega arith) (omega arith) fewer))
+    rw (next-byte 8 n high, le-ltb (128 + n % 128) 128 (omega arith))
+    (ap (groupBelow (128 + n % 128)) (more-cut _ 8 (n / 128) k (omega arith) (omega arith) fewer)))
 
 -- a number that is cut short is 1 where it starts
 pub number-cut : (n start k : ℕ) (bytes : List ℕ) → drop start bytes ≡ take k (sevenBits n) → n < 2 ^ 64 → k < length (sevenBits n)
