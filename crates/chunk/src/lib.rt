@@ -1,4 +1,6 @@
 // One chunk of a message: what its first bytes say, and the pixel that a chunk of colour makes of the one before it.
+#![tactic(auto)]
+
 ghost use Rattle.std.specs.Prelude.{◌≡◌, [], ◌≤◌, length, take};
 ghost use Rattle.pixel.specs.Colour.{alpha as alpha_of, clear_pixel, with_alpha};
 ghost use Rattle.pixel.specs.Packed.{unpacked};
@@ -16,7 +18,7 @@ use pixel::packed;
 use pixel::types::Channels;
 
 // A chunk that makes its pixel from the one before it, and is stored.
-#[derive(Drop)]
+#[derive(Clone, Copy)]
 pub enum Colour {
     // Red, green and blue difference, each plus 2.
     Diff(u8, u8, u8),
@@ -29,7 +31,7 @@ pub enum Colour {
 }
 
 // What a part of a message starts with.
-#[derive(Drop)]
+#[derive(Clone, Copy)]
 pub enum Found {
     // A chunk whose bytes are not all there.
     Cut,
@@ -87,7 +89,7 @@ pub fn read(source: Channels, part: &[u8]) -> Found
 }
 
 // What follows the last pixel: the marker, other bytes, or too few.
-#[derive(Drop)]
+#[derive(Clone, Copy)]
 pub enum Ending {
     Cut,
     Wrong,

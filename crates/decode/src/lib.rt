@@ -1,4 +1,6 @@
 // The whole decode of a message into a lent output, and the rest of a message after it.
+#![tactic(auto)]
+
 ghost use Rattle.std.specs.Prelude.{◌≡◌, ◌≤◌, length};
 ghost use Rattle.pixel.specs.Types.{channels_number};
 ghost use Rattle.rules.specs.Decode.{decoder};
@@ -11,7 +13,7 @@ use header::{Header, HeaderRead};
 use pixel::error::Error;
 use pixel::types::{Channels, ChannelsRead};
 
-#[derive(Drop)]
+#[derive(Clone, Copy)]
 pub enum Decoded {
     // Bytes written, and message bytes used: header, chunks and marker.
     Done { size: usize, used: usize },

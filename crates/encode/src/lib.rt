@@ -1,4 +1,6 @@
 // The encoder to a lent output: header, chunks, marker.
+#![tactic(auto)]
+
 ghost use Rattle.std.specs.Prelude.{◌≡◌, length};
 ghost use Rattle.pixel.specs.Types.{channels_number};
 ghost use Rattle.header.specs.Header.{encoded_room, pixel_count, with_color_space};
@@ -18,7 +20,7 @@ mod put;
 mod run;
 mod three;
 
-#[derive(Drop)]
+#[derive(Clone, Copy)]
 pub enum Encoded {
     // Bytes written: header, chunks and marker.
     Done { size: usize },
@@ -26,12 +28,12 @@ pub enum Encoded {
 }
 
 // What a picture is encoded as.
-#[derive(Drop)]
+#[derive(Clone, Copy)]
 pub struct Encoder {
     pub header: Header,
 }
 
-#[derive(Drop)]
+#[derive(Clone, Copy)]
 pub enum EncoderRead {
     Ok(Encoder),
     Refused(Error),

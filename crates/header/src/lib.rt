@@ -1,4 +1,6 @@
 // The fourteen header bytes: read and written, the limits on dimensions, and the room that a picture may need.
+#![tactic(auto)]
+
 ghost use Rattle.std.specs.Prelude.{◌≡◌, ◌+◌, ◌*◌, ◌≤◌, length};
 ghost use Rattle.pixel.specs.Types.{channels_number};
 ghost use Rattle.header.specs.Header.{header_bytes, header_of, header_from, dimensions_fit as dimensions_fit_of, default_header, with_channels as with_channels_of, with_color_space, pixel_count, pixel_bytes, encoded_room, saturated, big_endian as big_endian_of, number_at as number_at_of, after_channels as after_channels_of, after_color_space as after_color_space_of};
@@ -10,7 +12,7 @@ use pixel::types::{Channels, ChannelsRead, ColorSpace, ColorSpaceRead};
 // A header as a message starts with it.
 pub type FourteenBytes = [u8; 14];
 
-#[derive(Drop)]
+#[derive(Clone, Copy)]
 pub struct Header {
     pub width: u32,
     pub height: u32,
@@ -18,7 +20,7 @@ pub struct Header {
     pub colorspace: ColorSpace,
 }
 
-#[derive(Drop)]
+#[derive(Clone, Copy)]
 pub enum HeaderRead {
     Ok(Header),
     Refused(Error),

@@ -1,5 +1,7 @@
 // Prints qoicheck's line of each message of a list. The list comes on standard input: before each message stands its
 // length, three bytes, the high one first.
+#![tactic(auto)]
+
 use libc::STDIN_FILENO;
 
 fn big_endian(high: u8, middle: u8, low: u8) -> usize {

@@ -1,18 +1,20 @@
 // Numbers in groups of seven bits, low group first: what records are written in.
+#![tactic(auto)]
+
 ghost use Rattle.std.specs.Prelude.{◌≡◌, ◌≤◌, length};
 ghost use Rattle.number.specs.Seven.{seven_bits, read_number, read_more as read_more_of, written_number, writing_number, group_below as group_below_of};
 ghost use Rattle.number.specs.Asked.{GroupFits};
 
 use pixel::error::Error;
 
-#[derive(Drop)]
+#[derive(Clone, Copy)]
 pub enum NumberRead {
     // A number, and how many bytes it took.
     Number { value: u64, used: usize },
     Refused(Error),
 }
 
-#[derive(Drop)]
+#[derive(Clone, Copy)]
 pub enum NumberWritten {
     Done { used: usize },
     Refused(Error),

@@ -10,7 +10,7 @@ use text::Text;
 // The figures of an answer, zeros after them.
 pub type FourFigures = [u64; 4];
 
-#[derive(Drop)]
+#[derive(Clone, Copy)]
 pub enum Error {
     // Input ended before what was to be read; in a record, within the field at this offset. Elsewhere it is 0.
     UnexpectedBufferEnd {
@@ -147,7 +147,7 @@ impl Error {
 }
 
 // How many bytes of words were written, or 7.
-#[derive(Drop)]
+#[derive(Clone, Copy)]
 pub enum Worded {
     Done(usize),
     Refused(Error),

@@ -1,4 +1,6 @@
 // Pixels, channel counts, colour spaces and refusals: what every layer above speaks of.
+#![tactic(auto)]
+
 ghost use Rattle.std.specs.Prelude.{◌≡◌, ◌+◌, ◌*◌, ◌%◌};
 ghost use Rattle.pixel.specs.Colour.{pixel_of, red, green, blue, alpha, start_pixel, clear_pixel, with_alpha, slot_of, wrapped_sum as wrapped_sum_of, wrapped_difference as wrapped_difference_of, signed_of};
 
@@ -9,7 +11,7 @@ pub mod types;
 mod words;
 
 // Red, green, blue, alpha. Where pixels have three channels the alpha is 255.
-#[derive(Drop)]
+#[derive(Clone, Copy)]
 pub struct Pixel {
     pub rgba: [u8; 4],
 }

@@ -4,13 +4,13 @@ ghost use Rattle.pixel.specs.Types.{channels_number, color_space_number, channel
 
 use crate::error::Error;
 
-#[derive(Drop)]
+#[derive(Clone, Copy)]
 pub enum Channels {
     Rgb,
     Rgba,
 }
 
-#[derive(Drop)]
+#[derive(Clone, Copy)]
 pub enum ColorSpace {
     // sRGB with linear alpha.
     Srgb,
@@ -18,13 +18,13 @@ pub enum ColorSpace {
     Linear,
 }
 
-#[derive(Drop)]
+#[derive(Clone, Copy)]
 pub enum ChannelsRead {
     Ok(Channels),
     Refused(Error),
 }
 
-#[derive(Drop)]
+#[derive(Clone, Copy)]
 pub enum ColorSpaceRead {
     Ok(ColorSpace),
     Refused(Error),

@@ -1,4 +1,6 @@
 // The functions that a host calls: each returns 0 or document 01's refusal number, and fills four figures.
+#![tactic(auto)]
+
 ghost use Rattle.std.specs.Prelude.{◌≡◌, ◌∷◌, []};
 ghost use Rattle.header.specs.Header.{header_of};
 ghost use Rattle.rules.specs.Figures.{refusal_figures, header_figures};

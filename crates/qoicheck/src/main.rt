@@ -1,5 +1,7 @@
 // Reads a message from standard input and prints one line: `ok` and its figures, `refused` and the number, or
 // `too long`. A read that fails counts as the input's end.
+#![tactic(auto)]
+
 use libc::STDIN_FILENO;
 
 fn main() {

@@ -1,4 +1,6 @@
 // The line that `qoicheck` prints: what the strict check says of an input.
+#![tactic(auto)]
+
 ghost use Rattle.std.specs.Prelude.{◌≡◌, length};
 ghost use Rattle.text.specs.Text.{text_of, said, put_over};
 ghost use Rattle.pixel.specs.Words.{worded_in};

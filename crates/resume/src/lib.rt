@@ -1,4 +1,6 @@
 // A decode as a state that moves on by value: where it stands, a start, and the record that another worker takes up.
+#![tactic(auto)]
+
 ghost use Rattle.std.specs.Prelude.{◌≡◌, length};
 ghost use Rattle.header.specs.Header.{saturated};
 ghost use Rattle.rules.specs.Reading.{size_wanted};
@@ -22,7 +24,7 @@ mod write_record;
 pub type Slots = [Pixel; 64];
 
 // Where a decode stands. A caller may make up any state: what uses one tests it.
-#[derive(Drop)]
+#[derive(Clone, Copy)]
 pub struct Decoder {
     pub header: Header,
     // Channels wanted, 3 or 4.
@@ -39,20 +41,20 @@ pub struct Decoder {
     pub number: u64,
 }
 
-#[derive(Drop)]
+#[derive(Clone, Copy)]
 pub enum StartAnswer {
     Ok,
     Refused(Error),
 }
 
 // The answer, and the state to go on with: the old one after a refusal.
-#[derive(Drop)]
+#[derive(Clone, Copy)]
 pub struct Started {
     pub answer: StartAnswer,
     pub decoder: Decoder,
 }
 
-#[derive(Drop)]
+#[derive(Clone, Copy)]
 pub enum StepAnswer {
     // There is more to do.
     More,
@@ -62,13 +64,13 @@ pub enum StepAnswer {
 }
 
 // The answer, and the state to go on with: an end leaves it.
-#[derive(Drop)]
+#[derive(Clone, Copy)]
 pub struct Stepped {
     pub answer: StepAnswer,
     pub decoder: Decoder,
 }
 
-#[derive(Drop)]
+#[derive(Clone, Copy)]
 pub enum Written {
     Done { size: usize },
     Refused(Error),

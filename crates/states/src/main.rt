@@ -5,6 +5,8 @@
 // 300; eight bytes, how many pixels more are left than the picture has from the pixel position on, modulo 2^64; eight
 // bytes, the message's number that is expected; one byte, how many steps to run; the length of a message, two bytes,
 // and the message, padded. Numbers have their high byte first.
+#![tactic(auto)]
+
 ghost use Rattle.std.specs.Prelude.{◌≤◌};
 
 use libc::{STDIN_FILENO, STDOUT_FILENO};

@@ -1,5 +1,7 @@
 // The strict check of a message: what a decode accepts, with no run past the image and nothing after the marker; it
 // counts chunks and bytes.
+#![tactic(auto)]
+
 ghost use Rattle.std.specs.Prelude.{◌≡◌, ◌≤◌, ltb, length};
 ghost use Rattle.header.specs.Header.{header_of};
 ghost use Rattle.header.specs.declared.HeaderRead.TheVariants as header_read;
@@ -15,7 +17,7 @@ use quick::Counted;
 
 mod quick;
 
-#[derive(Drop)]
+#[derive(Clone, Copy)]
 pub enum StrictAnswer {
     // The header, how many chunks, and how many bytes in all.
     Accepted {

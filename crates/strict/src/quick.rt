@@ -7,7 +7,7 @@ use header::Header;
 use pixel::types::Channels;
 
 // Where the check stands between two chunks.
-#[derive(Drop)]
+#[derive(Clone, Copy)]
 pub struct Counted {
     // Byte position in the message.
     pub at: usize,

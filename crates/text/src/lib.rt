@@ -1,4 +1,6 @@
 // Words and decimal numbers one after another: a text of at most 160 bytes, made by value, then put into a lent output.
+#![tactic(auto)]
+
 ghost use Rattle.std.specs.Prelude.{◌≡◌, [], ◌++◌, length};
 ghost use Rattle.text.specs.Text.{text_of, clipped, decimal, put_over};
 
@@ -6,7 +8,7 @@ ghost use Rattle.text.specs.Text.{text_of, clipped, decimal, put_over};
 const ROOM: usize = 160;
 
 // The text is the first `len` bytes, all of them where `len` is more.
-#[derive(Drop)]
+#[derive(Clone, Copy)]
 pub struct Text {
     bytes: [u8; 160],
     len: usize,
@@ -61,7 +63,8 @@ impl Text {
             return n;
         }
         let bytes = self.bytes;
-        bytes::copy(&bytes[..n], out)
+        out[..n].copy_from_slice(&bytes[..n]);
+        n
     }
 
     // How many bytes the text has.

@@ -9,7 +9,7 @@ ghost use Rattle.totals.specs.Framing.{sums, past_of, HighBelow};
 const BLOCK: usize = 4096;
 
 // The first cell whose total would pass 2^64-1.
-#[derive(Drop)]
+#[derive(Clone, Copy)]
 pub enum Past {
     At(usize),
     Nowhere,

@@ -1,5 +1,7 @@
 // Rain totals, each hour once: a message is decoded to its frame, the frame's cells are added to the totals of a lent
 // table, and its hour is marked.
+#![tactic(auto)]
+
 ghost use Rattle.totals.specs.Counting.{Counts};
 ghost use Rattle.totals.specs.Framing.{Frames};
 
@@ -14,7 +16,7 @@ mod adding;
 // A mark for each hour of a month, 0 as long as its frame is not counted.
 pub type Marks = [u8; 744];
 
-#[derive(Drop)]
+#[derive(Clone, Copy)]
 pub enum Counted {
     // The frame is added and its hour marked. Message bytes used: header, chunks and marker.
     Done { used: usize },
@@ -55,7 +57,7 @@ pub fn count(
 }
 
 // A frame that is one pixel a cell, or why it is none.
-#[derive(Drop)]
+#[derive(Clone, Copy)]
 enum FrameRead {
     Ok { used: usize },
     Refused(Error),

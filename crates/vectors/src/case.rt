@@ -6,7 +6,7 @@ use crate::{groups, hex};
 // Where the input's digits start.
 const INPUT: usize = 67;
 
-#[derive(Drop)]
+#[derive(Clone, Copy)]
 struct Recorded {
     good: bool,
     answer: Answer,

@@ -7,7 +7,7 @@ use encode::{Encoded, Encoder, EncoderRead};
 use pixel::types::{ColorSpace, ColorSpaceRead};
 
 // The calls that encode a picture.
-#[derive(Drop)]
+#[derive(Clone, Copy)]
 enum Call {
     Encode,
     // In sRGB alone.

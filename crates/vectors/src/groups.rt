@@ -5,7 +5,7 @@ use pixel::error::Error;
 use pixel::types::{Channels, ChannelsRead, ColorSpace, ColorSpaceRead};
 
 // 0 and the figures of what was accepted, or the number and the figures of a refusal.
-#[derive(Drop)]
+#[derive(Clone, Copy)]
 pub struct Answer {
     pub number: u64,
     pub figures: [u64; 4],

@@ -1,7 +1,7 @@
 // Hex digits as numbers and as bytes.
 
 // A number read; good unless something was no digit.
-#[derive(Drop)]
+#[derive(Clone, Copy)]
 pub struct Hex {
     pub good: bool,
     pub value: u64,

@@ -3,6 +3,8 @@
 //
 // The list comes on standard input. A line is a case, and an empty line is none: empty lines fill the pages of 65,536
 // bytes, so that no case lies in two.
+#![tactic(auto)]
+
 use libc::STDIN_FILENO;
 use tally::Tally;
 
@@ -28,7 +30,7 @@ fn with_page(page: &[u8], before: Tally) -> Tally {
     tally
 }
 
-#[derive(Drop)]
+#[derive(Clone, Copy)]
 struct Turn {
     more: bool,
     tally: Tally,

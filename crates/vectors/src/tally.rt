@@ -4,7 +4,7 @@ ghost use Rattle.std.specs.Prelude.{◌<◌};
 use libc::STDOUT_FILENO;
 
 // A place for each of the letters from a to o, and the last for any other.
-#[derive(Drop)]
+#[derive(Clone, Copy)]
 pub struct Tally {
     cases: [u64; 16],
     agreed: [u64; 16],

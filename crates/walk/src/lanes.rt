@@ -6,7 +6,7 @@ ghost use Rattle.pixel.specs.Packed.{unpacked};
 ghost use Rattle.rules.specs.Chunk.{colour_of, DIFF, LUMA, RGB};
 ghost use Rattle.walk.specs.Lanes.{pixel_in, Narrow, Holds};
 
-#[derive(Drop)]
+#[derive(Clone, Copy)]
 pub struct Lanes {
     pub even: u32,
     pub odd: u32,

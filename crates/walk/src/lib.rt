@@ -1,4 +1,6 @@
 // The next n chunks of a decode, from any place: the hot loops.
+#![tactic(auto)]
+
 ghost use Rattle.std.specs.Prelude.{◌≡◌, min};
 ghost use Rattle.pixel.specs.Types.{channels_number};
 ghost use Rattle.header.specs.Header.{pixel_count};
@@ -21,7 +23,7 @@ mod spot;
 mod three;
 
 // Where a decode stands between two chunks.
-#[derive(Drop)]
+#[derive(Clone, Copy)]
 pub struct Place {
     pub at: usize,
     pub pixel: usize,
@@ -30,7 +32,7 @@ pub struct Place {
 }
 
 // Where some chunks led, how many more were allowed, and whether the next one is cut short.
-#[derive(Drop)]
+#[derive(Clone, Copy)]
 pub struct Walked {
     pub cut: bool,
     pub spare: usize,
@@ -38,7 +40,7 @@ pub struct Walked {
 }
 
 // Where every chunk of a message led, and whether the next one is cut short.
-#[derive(Drop)]
+#[derive(Clone, Copy)]
 pub struct Ended {
     pub cut: bool,
     pub at: usize,

@@ -9,7 +9,7 @@ use crate::lanes::Lanes;
 use crate::{Place, Walked, lanes, slots};
 use pixel::packed;
 
-#[derive(Drop)]
+#[derive(Clone, Copy)]
 pub struct Spot {
     // Byte position in the message.
     pub at: usize,
@@ -21,7 +21,7 @@ pub struct Spot {
 }
 
 // Where a walk came to, and whether the next chunk is cut short.
-#[derive(Drop)]
+#[derive(Clone, Copy)]
 pub struct Reached {
     pub cut: bool,
     pub spot: Spot,
