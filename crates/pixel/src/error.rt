@@ -1,6 +1,6 @@
 // The refusals of document 01, and of document 02 12 (Q-7) and 19 to 21 (Q-13): number, figures and words of each.
 ghost use Rattle.std.specs.Prelude.{◌≡◌, length};
-ghost use Rattle.text.specs.Text.{text_of as text_of_of, put_over};
+ghost use Rattle.text.specs.Text.{text_of as bytes_of_text, put_over};
 ghost use Rattle.pixel.specs.Refusal.{number_of, figures_of};
 ghost use Rattle.pixel.specs.Words.{words_of, worded_in};
 
@@ -163,8 +163,8 @@ pub fn text_of(number: u64, figures: FourFigures, out: &mut [u8]) -> Worded
 
 // Puts a text at the front of an output; nothing where there is no room for it.
 pub fn put_text(text: Text, out: &mut [u8]) -> Worded
-    ensures value { result ≡ worded_in (text_of_of text) (length out.old) }
-    ensures out_after { out.new ≡ put_over (text_of_of text) out.old }
+    ensures value { result ≡ worded_in (bytes_of_text text) (length out.old) }
+    ensures out_after { out.new ≡ put_over (bytes_of_text text) out.old }
 {
     let size = out.len();
     let required = text.put(out);

@@ -1,0 +1,23 @@
+-- `pixel::words::bad` meets its contract: the words of an offset, or those without one.
+-- Assumes nothing.
+use mathlib.Core.Path.{refl}
+use mathlib.Core.List.{[], ◌∷◌}
+use borrow.Author.Tests.{ne_eqb}
+use lib.Dec.{lit≤}
+use Rattle.text.specs.Text.{figure}
+use Rattle.text.proofs.Laws.{spoken_whole}
+use Rattle.pixel.specs.Words.{bad_parts}
+use Rattle.pixel.proofs.words.bad.Goals as goal
+
+pub returns-then-offset-eq0 : goal.returns-then-offset-eq0
+returns-then-offset-eq0 c =
+    let none = c.empty-text in
+    rw c.if-offset-eq0.true
+    (spoken_whole (bad_parts 0) none.result c.words.result (lit≤ tt) none.ensures (c.words.result, c.words.ensures, refl))
+
+pub returns : goal.returns
+returns c =
+    let none = c.empty-text in
+    let offset = c.args.offset in
+    rw (ne_eqb offset 0 c.if-offset-eq0.false)
+    (spoken_whole (figure "record is bad at byte " offset ∷ []) none.result c.figure.result (lit≤ tt) none.ensures (c.figure.result, c.figure.ensures, refl))
