@@ -1,7 +1,7 @@
 -- Laws of the test of two lists of bytes: it goes byte by byte.
 -- Assumes nothing.
 use mathlib.Core.Path.{◌≡◌}
-use mathlib.Core.Bool.{◌&&◌, and_true, and_assoc}
+use mathlib.Core.Bool.{◌&&◌, and-true, and_assoc}
 use mathlib.Core.List.{List, [], ◌∷◌}
 use Prim.Native.Nat.{ℕ, zero, suc, ◌<◌}
 use native.Mathlib.Omega.{arith}
@@ -16,6 +16,6 @@ pub same_next :
 unfolding same_bytes
 same_next i [] b less less' = absurd (omega arith)
 same_next i (x ∷ xs) [] less less' = absurd (omega arith)
-same_next zero (x ∷ xs) (y ∷ ys) less less' = and_true (eqb x y)
+same_next zero (x ∷ xs) (y ∷ ys) less less' = and-true (eqb x y)
 same_next (suc i) (x ∷ xs) (y ∷ ys) less less' =
     rw (same_next i xs ys (omega arith) (omega arith), and_assoc)

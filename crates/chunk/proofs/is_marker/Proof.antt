@@ -1,7 +1,7 @@
 -- `chunk::is_marker` meets its contract: after each byte it is known whether those so far are the marker's.
 -- Assumes nothing.
 use mathlib.Core.Path.{◌≡◌, ◌∙◌}
-use mathlib.Core.Bool.{and_true, and-false}
+use mathlib.Core.Bool.{and-true, and-false}
 use mathlib.Core.Logic.{⊎_elim}
 use Prim.Native.Nat.{◌≤◌, ◌-◌}
 use native.Mathlib.Numerals.{add-one}
@@ -44,7 +44,7 @@ loop-again c =
       omega arith,
       rw (add-one i, same_next i part marker (omega arith) (omega arith))
           (⊎_elim (λ w. rw (ne_eqb _ _ w.0.taken, and-false) w.1)
-          (λ w. rw (eq-eqb _ _ w.0.left, and_true) (w.1 ∙ c.before.before.before.loop.invariant.1))
+          (λ w. rw (eq-eqb _ _ w.0.left, and-true) (w.1 ∙ c.before.before.before.loop.invariant.1))
           c.if1.branch),
     )
 

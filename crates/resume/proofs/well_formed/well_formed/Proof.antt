@@ -1,7 +1,7 @@
 -- `resume::well_formed::well_formed` meets its contract: the tests in the code's order leave those of the definition.
 -- Assumes nothing.
 use mathlib.Core.Path.{sym}
-use mathlib.Core.Bool.{and_true, and-false}
+use mathlib.Core.Bool.{and-true, and-false}
 use Prim.Native.Nat.{◌+◌}
 use native.Mathlib.Omega.{arith}
 use borrow.Author.Rules.{rules}
@@ -57,7 +57,7 @@ returns-6 c =
     let within = c.before.before.before.before.before.before.if3.false in
     let rest = c.before.before.before.if4.false in
     rw (fitted d.header c.before.before.before.before.before.before.before.before.before.before.before.before.dimensions-fit.ensures c.before.before.before.before.before.before.before.before.before.before.before.if1.false, le-leb 14 d.at (omega (arith, c.before.before.before.before.before.before.before.before.before.if2.false)), le-leb d.pixel (pixel_count d.header) (omega arith), eq-eqb (d.pixel + d.left) (pixel_count d.header) (omega arith), ne_eqb d.wanted 3 c.before.if5.false)
-    (sym (and_true _))
+    (sym (and-true _))
 
 pub well_formed_spec : {M : Type 1} → statement M
 well_formed_spec =
