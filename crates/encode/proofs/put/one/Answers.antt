@@ -3,13 +3,8 @@
 use mathlib.Core.Path.{refl}
 use mathlib.Core.List.{[], ◌∷◌}
 use native.Mathlib.Omega.{arith}
-use borrow.Author.Rules.{rules}
 use Rattle.rules.proofs.PastingLaws.{stored}
-use Rattle.encode.proofs.put.one.Statement.{statement}
-use Rattle.encode.proofs.put.one.Tie as tie
+use Rattle.encode.proofs.put.one.Goals as goal
 
-returns : tie.Need-returns
+pub returns : goal.returns
 returns c = (refl, stored (c.args.byte ∷ []) c.args.out.now c.args.at (omega arith))
-
-pub one_spec : {M : Type 1} → statement M
-one_spec = tie.close (tie.spec (λ c. search rules) (λ c. search rules) (λ c. search rules) returns)
