@@ -3,11 +3,9 @@
 use mathlib.Core.Path.{◌≡◌, refl, sym}
 use mathlib.Core.Bool.{Bool, true, false, ◌||◌}
 use Prim.Native.Nat.{ℕ}
-use borrow.Author.Rules.{rules}
 use borrow.Author.Tests.{eqb-true}
 use lib.Dec.{T, eqb}
-use Rattle.resume.proofs.run.channels_of.Statement.{statement}
-use Rattle.resume.proofs.run.channels_of.Tie as tie
+use Rattle.resume.proofs.run.channels_of.Goals as goal
 
 -- what is not 3 is 4
 other : (w : ℕ) → T (eqb w 3 || eqb w 4) → (w ≡ 3 → ⊥) → 4 ≡ w
@@ -18,8 +16,5 @@ other w t differs = go (eqb w 3) refl (eqb w 4) refl t
     go false e true f t = sym (eqb-true w 4 f)
     go false e false f t = absurd t
 
-returns-2 : tie.Need-returns-2
-returns-2 c = other c.before.args.wanted c.before.requires c.if1.false
-
-pub channels_of_spec : {M : Type 1} → statement M
-channels_of_spec = tie.close (tie.spec (λ c. search rules) returns-2)
+pub returns-else-wanted-eq3 : goal.returns-else-wanted-eq3
+returns-else-wanted-eq3 c = other c.args.wanted c.requires c.if-wanted-eq3.false
