@@ -1,7 +1,7 @@
 -- The laws of the header: its bytes read back, how many they are, what an accepted header is like, and that it is
 -- written back. Assumes nothing.
 use mathlib.Core.Path.{◌≡◌, refl, sym, ◌∙◌, ap, ap₂, subst}
-use mathlib.Core.Bool.{Bool, true, false, cond, not, ◌&&◌}
+use mathlib.Core.Bool.{Bool, true, false, cond, ◌&&◌}
 use mathlib.Core.List.{List, [], ◌∷◌, ◌++◌}
 use Prim.Native.Nat.{ℕ, zero, suc, ◌+◌, ◌*◌, ◌/◌, ◌%◌, ◌^◌, ◌≤◌, ◌<◌}
 use native.Mathlib.Nat.{zero-mul, mul-zero, mul_comm, le-mul_of_pos_right, le_of_lt, lt_of_le_of_lt, mul-le-mul_left, mul-lt-mul_of_pos_right, mod-eq_of_lt, div-div-eq-div-mul}
@@ -10,7 +10,7 @@ use native.Mathlib.Omega.{arith}
 use lib.Dec.{T, ltb, leb, eqb, leb→le, eqb→eq, lit<}
 use lib.ListN.{length, get_or, take, drop}
 use lib.Seq.{drop-cons}
-use borrow.Author.Tests.{le-ltb, ltb-false, eqb-true, not-false}
+use borrow.Author.Tests.{le-ltb, ltb-false, eqb-true}
 use Rattle.pixel.specs.Bytes.{AllBytes}
 use Rattle.pixel.specs.Types.{channels_number, color_space_number, channels_from, color_space_from}
 use Rattle.pixel.specs.Colour.{red, green, blue, alpha}
@@ -218,11 +218,11 @@ module _ (bytes : List ℕ) (are : AllBytes bytes) where
 
 -- what a test that was passed says
 pub fitted :
-    (h : Header) {passed : Bool} → passed ≡ dimensions_fit h.width h.height → not passed ≡ false → dimensions_fit h.width h.height ≡ true
-fitted h {passed} is left = sym is ∙ not-false passed left
+    (h : Header) {passed : Bool} → passed ≡ dimensions_fit h.width h.height → passed ≡ true → dimensions_fit h.width h.height ≡ true
+fitted h is left = sym is ∙ left
 
 -- a header that passed has few pixels
 pub fitted_small :
     (h : Header) {passed : Bool} {n : ℕ}
-    → passed ≡ dimensions_fit h.width h.height → not passed ≡ false → n ≡ pixel_count h → n ≤ 400000000
+    → passed ≡ dimensions_fit h.width h.height → passed ≡ true → n ≡ pixel_count h → n ≤ 400000000
 fitted_small h is left count = rw count (pixels_small h (subst T (sym (fitted h is left)) tt))
