@@ -5,16 +5,15 @@ use mathlib.Core.List.{List, [], ◌++◌, append-nil}
 use Prim.Native.Nat.{ℕ, ◌+◌, ◌-◌, ◌≤◌}
 use native.Mathlib.Nat.{zero-add}
 use native.Mathlib.Omega.{arith}
-use lib.ListN.{length, take, drop}
-use lib.Seq.{take-length}
-use borrow.Rule.Slice.PartMut.{put_mid}
+use lib.ListN.{length, drop}
+use borrow.Rule.Slice.PartMut.{put_mid, Post-is}
 use Rattle.pixel.specs.Types.{channels_number}
 use Rattle.header.specs.declared.Header.{Header}
 use Rattle.header.specs.Header.{pixel_count, header_bytes}
+use Rattle.header.proofs.Laws.{header_length}
 use Rattle.rules.specs.Bytes.{pasted, Puts}
 use Rattle.rules.specs.Encode.{chunks_of, stream_of}
 use Rattle.rules.specs.Reading.{marker}
-use Rattle.rules.proofs.PastingLaws.{length_pasted, copied_back}
 use Rattle.encode.specs.Asked.{Fits, Framed, picture_bytes}
 use Rattle.encode.proofs.Loop.{Pending, reworded, first_fits, advance, ended_at}
 
@@ -31,31 +30,31 @@ module _ (header : Header) (pixels out : List ℕ) (f : Framed header pixels out
       reworded (ap (λ (l : List ℕ). l ++ (chunk_bytes_of ++ marker)) (sym is))
       (record { long = refl; room = omega (arith, f.room); ends = refl; makes = refl })
 
-  pub header_fits : length fourteen ≤ length out
-  header_fits = omega (arith, first_fits fourteen _ header_pending)
+  pub fourteen_long : length fourteen ≡ 14
+  fourteen_long = ap length is ∙ header_length header
 
-  module _ {start : ℕ} {out₁ : List ℕ} (starts : start ≡ length fourteen) (copied : out₁ ≡ take (length fourteen) fourteen ++ drop (length fourteen) out) where
-    chunks_pending : Left start (chunk_bytes_of ++ marker) out₁
+  pub header_fits : 14 ≤ length out
+  header_fits = omega (arith, first_fits fourteen _ header_pending, fourteen_long)
+
+  module _ {first : List ℕ} (copied : first ≡ fourteen) where
+    chunks_pending : Left 14 (chunk_bytes_of ++ marker) (first ++ drop 14 out)
     chunks_pending =
-        advance fourteen _ header_pending start out₁
-        (starts ∙ sym (zero-add (length fourteen)), copied ∙ rw (take-length fourteen, zero-add (length fourteen)) refl)
+        advance fourteen _ header_pending 14 (first ++ drop 14 out)
+        (sym fourteen_long ∙ sym (zero-add (length fourteen)), rw (copied, fourteen_long) refl)
 
-    pub chunks_fit : Fits pixels (pixel_count header) (channels_number header.channels) out₁ start
+    pub chunks_fit : Fits pixels (pixel_count header) (channels_number header.channels) (first ++ drop 14 out) 14
     chunks_fit = record { many = f.many; room = first_fits chunk_bytes_of marker chunks_pending }
 
-    module _ {end : ℕ} {out₂ : List ℕ} (put : Puts start chunk_bytes_of out₁ end out₂) where
+    module _ {end : ℕ} {out₂ : List ℕ} (put : Puts 14 chunk_bytes_of (first ++ drop 14 out) end out₂) where
       marker_pending : Left end (marker ++ []) out₂
       marker_pending = reworded (sym (append-nil marker)) (advance chunk_bytes_of marker chunks_pending end out₂ put)
 
       pub marker_fits : end + 8 ≤ length out₂
       marker_fits = first_fits marker [] marker_pending
 
-      module _ {n : ℕ} {part : List ℕ} (all : n ≡ 8) (last : part ≡ take 8 marker ++ drop 8 (take (length out₂ - end) (drop end out₂))) where
-        pub framed : Puts 0 (stream_of header pixels) out (end + n) (put_mid end (length out₂ - end) out₂ part)
+      module _ {part : List ℕ} (last : part ≡ marker) where
+        pub framed : Puts 0 (stream_of header pixels) out (end + 8) (put_mid end (end + 8 - end) out₂ part)
         framed =
             ended_at
             (advance marker [] marker_pending _ _
-            (ap (λ (n : ℕ). end + n) all, copied_back out₂ end marker (omega (arith, marker_fits)) part last))
-
-        pub framed_length : length (put_mid end (length out₂ - end) out₂ part) ≡ length out
-        framed_length = ap length framed.1 ∙ length_pasted out 0 (stream_of header pixels) (omega (arith, f.room))
+            (refl, rw (last, Post-is end (end + 8) out₂ (omega arith)) refl))

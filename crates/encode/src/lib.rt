@@ -158,10 +158,13 @@ fn write_stream(pixels: &[u8], header: Header, out: &mut [u8]) -> usize
     ensures { Puts 0 (stream_of header pixels.now) out.old result out.new }
 {
     let fourteen = header.encode();
-    let start = bytes::copy(&fourteen, out);
+    let start = fourteen.len();
+    out[..start].copy_from_slice(&fourteen);
     let end = write_chunks(pixels, header, out, start);
     let marker = QOI_PADDING;
-    end + bytes::copy(&marker, &mut out[end..])
+    let after = end + marker.len();
+    out[end..after].copy_from_slice(&marker);
+    after
 }
 
 // Writes the chunks of a header's pixels at a place, and answers where they end.

@@ -218,11 +218,11 @@ module _ (bytes : List ℕ) (are : AllBytes bytes) where
 
 -- what a test that was passed says
 pub fitted :
-    (h : Header) {passed : Bool} → passed ≡ dimensions_fit h.width h.height → not passed ≡ false → dimensions_fit h.width h.height ≡ true
-fitted h {passed} is left = sym is ∙ not-false passed left
+    (h : Header) {passed : Bool} → passed ≡ dimensions_fit h.width h.height → passed ≡ true → dimensions_fit h.width h.height ≡ true
+fitted h is left = sym is ∙ left
 
 -- a header that passed has few pixels
 pub fitted_small :
     (h : Header) {passed : Bool} {n : ℕ}
-    → passed ≡ dimensions_fit h.width h.height → not passed ≡ false → n ≡ pixel_count h → n ≤ 400000000
+    → passed ≡ dimensions_fit h.width h.height → passed ≡ true → n ≡ pixel_count h → n ≤ 400000000
 fitted_small h is left count = rw count (pixels_small h (subst T (sym (fitted h is left)) tt))

@@ -20,12 +20,12 @@ use Rattle.resume.specs.contracts.Decoder as decoder
 
 -- a pixel has four bytes
 pub pixel_four : (p : Pixel) (vs : List Val) → Is pixel.the_row p vs → length p.rgba ≡ 4
-pixel_four p vs is = length_unmapped ℕ p.rgba 4 is.1.1.0.1.0.1
+pixel_four p vs is = is.1.1.0.1.0.1
 
 -- each of some pixels has four bytes
 slots_four :
     (ps : List Pixel) (us : List Val)
-    → shadow (each (pixel.the_field).row.Denot (pixel.the_field).row.own_val (map (pixel.the_field).into ps) us)
+    → shadow (each (pixel.the_row).Denot (pixel.the_row).own_val ps us)
     → (i : ℕ) → i < length ps → length (get_or ps i clear_pixel).rgba ≡ 4
 slots_four [] us are i h = absurd (omega arith)
 slots_four (p ∷ ps) [] are i h = absurd are
@@ -38,7 +38,7 @@ typed d vs is =
     let fields = is.1.1 in
     let header = fields.0.1.1 in
     let slots = fields.1.1.1.1.1.1.0 in
-    let many : length d.slots ≡ 64 = sym (length-map d.slots (pixel.the_field).into) ∙ slots.1.0.1 in
+    let many : length d.slots ≡ 64 = slots.1.0.1 in
     record {
       width_fits = header.0.1;
       height_fits = header.1.0.1;

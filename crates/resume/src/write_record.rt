@@ -86,5 +86,7 @@ fn put(out: &mut [u8], at: usize, bytes: &[u8]) -> usize
     requires { at + length bytes.now ≤ length out.old }
     ensures { Puts at bytes.now out.old result out.new }
 {
-    at + bytes::copy(bytes, &mut out[at..])
+    let end = at + bytes.len();
+    out[at..end].copy_from_slice(bytes);
+    end
 }

@@ -1,7 +1,9 @@
 -- What the test of the input says, and the test taken apart.
 -- Assumes nothing.
 use mathlib.Core.List.{List}
-use mathlib.Core.Path.{◌≡◌}
+use mathlib.Core.Bool.{Bool, true}
+use mathlib.Core.Path.{◌≡◌, sym, subst, ◌∙◌}
+use Prim.{tt}
 use Prim.Native.Nat.{ℕ, ◌+◌, ◌*◌, ◌≤◌}
 use lib.Dec.{T, leb, eqb, leb→le, eqb→eq}
 use lib.ListN.{length}
@@ -38,3 +40,11 @@ fitted header wanted message left steps place out t =
       few_steps = leb→le steps (left + 1) fifth.0;
       room = leb→le (left * wanted) (length out) fifth.1;
     }
+
+-- the same, of a test whose answer is known
+pub fitted_by :
+    (header : Header) (wanted : ℕ) (message : List ℕ) (left steps : ℕ) (place : Place) (out : List ℕ) {passed : Bool}
+    → passed ≡ fits header wanted (length message) left steps place.at place.pixel (length out) → passed ≡ true
+    → Fits header wanted message left steps place out
+fitted_by header wanted message left steps place out is passes =
+    fitted header wanted message left steps place out (subst T (sym passes ∙ is) tt)
