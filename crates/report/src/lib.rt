@@ -7,9 +7,9 @@ ghost use Rattle.pixel.specs.Words.{worded_in};
 ghost use Rattle.report.specs.Line.{ok_parts, refused_parts, line_of};
 
 use header::Header;
-use libc::STDOUT_FILENO;
 use pixel::error;
 use pixel::error::Worded;
+use std::io::Stdout;
 use strict::StrictAnswer;
 use text::Text;
 
@@ -24,8 +24,8 @@ pub fn line(input: &[u8], out: &mut [u8]) -> Worded
     error::put_text(told(input), out)
 }
 
-// Prints the line of an input, and answers how many bytes it has.
-pub fn print_line(input: &[u8]) -> usize
+// Prints the line of an input, and answers how many bytes it has. A write that fails is let go.
+pub fn print_line(stdout: Stdout, input: &[u8]) -> usize
     ensures { result ≡ length (line_of input.now) }
 {
     let mut out = [0u8; 160];
@@ -33,7 +33,7 @@ pub fn print_line(input: &[u8]) -> usize
         // It never comes: no line is longer than 160 bytes.
         Worded::Refused(_) => 0,
         Worded::Done(size) => {
-            io::write_all(STDOUT_FILENO, &out[..size]);
+            let _ = stdout.write_all(&out[..size]);
             size
         }
     }
