@@ -21,7 +21,7 @@ use Rattle.rules.proofs.PastingLaws.{take_pasted, drop_pasted, beyond_pasted, le
 use Rattle.rules.proofs.ReadingLaws.{advances, stays_within}
 use Rattle.rules.proofs.RecordLaws.{adds_up}
 use Rattle.demands.specs.TakeOver.{bytes_before}
-use Rattle.rules.proofs.StepLaws.{next_state, bytes_by, move_from, needed, Kind, not_well, no_room, at_end, by_chunk, kind}
+use Rattle.rules.proofs.StepLaws.{next_state, bytes_by, move_from, needed, Kind, kind}
 use Rattle.demands.proofs.Steps.{end_is_not_more, WentOn, went_on}
 use Rattle.demands.proofs.Course.{whole, OnCourse, within, uncut_whole, uncut_short, whole_ends, same_needed, reached, written_on, reaches_on, goes_on_course}
 

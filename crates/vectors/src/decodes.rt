@@ -51,7 +51,7 @@ fn answered(message: &[u8], decoded: Decoded) -> Answer {
 // A decode into an output, if it leaves there what the Rust left.
 fn decoded(message: &[u8], wanted: u8, out: &mut [u8], left: &[u8]) -> Answer {
     let decoded = decode::decode(message, wanted as u64, out);
-    if check::same(out, left) {
+    if *out == *left {
         answered(message, decoded)
     } else {
         Answer::none()

@@ -60,7 +60,7 @@ fn lent(call: Call, pixels: &[u8], width: u32, height: u32, colorspace: u8, left
     }
     let out = &mut room[0..n];
     let encoded = encoded(call, pixels, width, height, colorspace, out);
-    if check::same(out, left) {
+    if *out == *left {
         answered(encoded)
     } else {
         Answer::none()

@@ -164,7 +164,7 @@ fn header_written(input: &[u8]) -> Answer {
         HeaderRead::Refused(e) => Answer::refused(e),
         HeaderRead::Ok(h) => {
             let bytes = h.encode();
-            if check::same(&bytes, &input[10..]) {
+            if bytes.as_slice() == &input[10..] {
                 Answer::accepted(0, 0, 0, 0)
             } else {
                 Answer::none()

@@ -36,14 +36,12 @@ fn pair(high: u8, low: u8) -> u8 {
 fn number(s: &[u8]) -> Hex {
     let mut good = true;
     let mut value: u64 = 0;
-    let mut i = 0;
-    while i < s.len() {
-        let d = digit(s[i]);
+    for c in s {
+        let d = digit(*c);
         if 15 < d {
             good = false;
         }
         value = more(value, d);
-        i += 1;
     }
     Hex { good, value }
 }
@@ -75,8 +73,7 @@ pub fn bytes(s: &[u8], out: &mut [u8]) -> usize {
     if out.len() < n {
         return out.len() + 1;
     }
-    let mut i = 0;
-    while i < n {
+    for i in 0..n {
         let high = digit(s[i * 2]);
         let low = digit(s[i * 2 + 1]);
         if 15 < high {
@@ -86,7 +83,6 @@ pub fn bytes(s: &[u8], out: &mut [u8]) -> usize {
             return out.len() + 1;
         }
         out[i] = pair(high, low);
-        i += 1;
     }
     n
 }

@@ -1,7 +1,7 @@
 // How many cases of each group there were, and how many agreed, with a line for each.
 ghost use Rattle.std.specs.Prelude.{◌<◌};
 
-use libc::STDOUT_FILENO;
+use std::io;
 
 // A place for each of the letters from a to o, and the last for any other.
 #[derive(Clone, Copy)]
@@ -26,13 +26,8 @@ fn more(n: u64) -> u64 {
     if n < 0xffff_ffff_ffff_ffff { n + 1 } else { n }
 }
 
-fn print(name: &[u8], agreed: u64, cases: u64) {
-    io::write_all(STDOUT_FILENO, name);
-    io::write_all(STDOUT_FILENO, b": ");
-    io::print_decimal(STDOUT_FILENO, agreed);
-    io::write_all(STDOUT_FILENO, b" of ");
-    io::print_decimal(STDOUT_FILENO, cases);
-    io::write_all(STDOUT_FILENO, b" agree\n");
+fn print(rt: &impl Print, name: &str, agreed: u64, cases: u64) -> io::Result<()> {
+    println!(rt; "{name}: {agreed} of {cases} agree")
 }
 
 impl Tally {
@@ -53,24 +48,30 @@ impl Tally {
         self
     }
 
-    pub fn report(self) {
-        print(b"header cut short", self.agreed[0], self.cases[0]);
-        print(b"header with one fault", self.agreed[1], self.cases[1]);
-        print(b"header with several faults", self.agreed[2], self.cases[2]);
-        print(b"header accepted", self.agreed[3], self.cases[3]);
-        print(b"header made", self.agreed[4], self.cases[4]);
-        print(b"room for a picture", self.agreed[5], self.cases[5]);
-        print(b"header written", self.agreed[6], self.cases[6]);
-        print(b"channel counts", self.agreed[7], self.cases[7]);
-        print(b"colour spaces", self.agreed[8], self.cases[8]);
-        print(b"decode accepted", self.agreed[9], self.cases[9]);
-        print(b"decode refused", self.agreed[10], self.cases[10]);
-        print(b"decode corners", self.agreed[11], self.cases[11]);
-        print(b"encode accepted", self.agreed[12], self.cases[12]);
-        print(b"encode refused", self.agreed[13], self.cases[13]);
-        print(b"encode corners", self.agreed[14], self.cases[14]);
+    pub fn report(self, rt: &impl Print) -> io::Result<()> {
+        print(rt, "header cut short", self.agreed[0], self.cases[0])?;
+        print(rt, "header with one fault", self.agreed[1], self.cases[1])?;
+        print(
+            rt,
+            "header with several faults",
+            self.agreed[2],
+            self.cases[2],
+        )?;
+        print(rt, "header accepted", self.agreed[3], self.cases[3])?;
+        print(rt, "header made", self.agreed[4], self.cases[4])?;
+        print(rt, "room for a picture", self.agreed[5], self.cases[5])?;
+        print(rt, "header written", self.agreed[6], self.cases[6])?;
+        print(rt, "channel counts", self.agreed[7], self.cases[7])?;
+        print(rt, "colour spaces", self.agreed[8], self.cases[8])?;
+        print(rt, "decode accepted", self.agreed[9], self.cases[9])?;
+        print(rt, "decode refused", self.agreed[10], self.cases[10])?;
+        print(rt, "decode corners", self.agreed[11], self.cases[11])?;
+        print(rt, "encode accepted", self.agreed[12], self.cases[12])?;
+        print(rt, "encode refused", self.agreed[13], self.cases[13])?;
+        print(rt, "encode corners", self.agreed[14], self.cases[14])?;
         if 0 < self.cases[15] {
-            print(b"of no group", self.agreed[15], self.cases[15]);
+            print(rt, "of no group", self.agreed[15], self.cases[15])?;
         }
+        Ok(())
     }
 }

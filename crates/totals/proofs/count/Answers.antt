@@ -1,7 +1,6 @@
 -- `totals::count` meets its contract: 19, counted already, the frame's refusals, 21, and else the sums and the mark.
 -- Assumes nothing.
 use mathlib.Core.List.{List}
-use mathlib.Core.Option.{none}
 use mathlib.Core.Path.{◌≡◌, sym, ◌∙◌, ap, subst}
 use Prim.Native.Nat.{ℕ, ◌≤◌}
 use native.Mathlib.Omega.{arith}
@@ -10,7 +9,7 @@ use Rattle.rules.specs.Bytes.{written_over}
 use Rattle.rules.specs.Decode.{decoding}
 use Rattle.totals.specs.declared.FrameRead.TheVariants as frame_read
 use Rattle.totals.specs.declared.Counted.TheVariants.{Done}
-use Rattle.totals.specs.Counting.{Table, Frame, frame_of, fitting, first_past, Outcome, counting_frame, counting, frame_after}
+use Rattle.totals.specs.Counting.{Table, Frame, frame_of, fitting, Outcome, counting_frame, counting, frame_after}
 use Rattle.totals.specs.Framing.{past_of, read_as}
 use Rattle.totals.proofs.Frames.{Stands, stands}
 use Rattle.totals.proofs.Calls.{above, marked, unmarked, counts_unread, counts_past, counts_whole}

@@ -1,16 +1,10 @@
 -- `totals::read_frame` meets its contract: the decode's refusals, then 2, then 20, and else a frame that fits.
 -- Assumes nothing.
-use mathlib.Core.List.{List}
 use mathlib.Core.Path.{◌≡◌, sym, ◌∙◌, ap}
 use Prim.Native.Nat.{ℕ}
 use native.Mathlib.Omega.{arith}
 use lib.ListN.{length}
 use Rattle.pixel.specs.declared.error.Error.TheVariants.{InvalidCellCount}
-use Rattle.header.specs.declared.Header.{Header}
-use Rattle.header.specs.declared.HeaderRead.TheVariants as header_read
-use Rattle.header.specs.Header.{header_of}
-use Rattle.rules.specs.Reading.{done}
-use Rattle.rules.specs.Decode.{decoding}
 use Rattle.decode.specs.Decoded.{answer_of}
 use Rattle.totals.specs.declared.FrameRead.TheVariants as frame_read
 use Rattle.totals.proofs.Decoded.{decoded_whole}

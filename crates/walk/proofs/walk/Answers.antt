@@ -4,13 +4,9 @@
 use mathlib.Core.Path.{◌≡◌, sym, subst, ◌∙◌}
 use Prim.{tt}
 use lib.Dec.{T}
-use borrow.Author.Tests.{not-false}
 use Rattle.pixel.specs.declared.Pixel.{Pixel}
-use Rattle.pixel.specs.Packed.{unpacked}
 use Rattle.pixel.specs.Types.{channels_number}
 use Rattle.rules.specs.Decode.{decoder_keeps}
-use Rattle.walk.specs.declared.lanes.Lanes.{Lanes}
-use Rattle.walk.specs.Lanes.{Holds}
 use Rattle.walk.specs.Walking.{place_of, walking_into}
 use Rattle.walk.proofs.Fitting.{fitted_by}
 use Rattle.walk.proofs.LanesLaws.{also}

@@ -1,11 +1,8 @@
 -- `walk::whole` meets its contract: where the input fits it is quick rounds from the start and then the careful loop.
 -- Assumes nothing.
-use mathlib.Core.Path.{◌≡◌, refl, sym, subst, ◌∙◌, ap}
+use mathlib.Core.Path.{◌≡◌, refl, ap}
 use mathlib.Core.List.{map}
-use Prim.{tt}
-use lib.Dec.{T}
 use lib.ListN.{replicate}
-use borrow.Author.Tests.{not-false}
 use Rattle.pixel.specs.declared.types.Channels.{Channels}
 use Rattle.pixel.specs.declared.types.Channels.TheVariants.{Rgb, Rgba}
 use Rattle.pixel.specs.Colour.{start_pixel}
@@ -13,8 +10,6 @@ use Rattle.pixel.specs.Packed.{unpacked}
 use Rattle.pixel.specs.Types.{channels_number}
 use Rattle.rules.specs.Decode.{decoder_keeps}
 use Rattle.rules.specs.Reading.{start_place}
-use Rattle.walk.specs.declared.lanes.Lanes.{Lanes}
-use Rattle.walk.specs.Lanes.{Holds}
 use Rattle.walk.specs.Walking.{end_of, walking_into}
 use Rattle.walk.proofs.Fitting.{fitted_by}
 use Rattle.walk.proofs.LanesLaws.{also}

@@ -1,12 +1,12 @@
 -- `pixel::words::of` meets its contract: what is said under each number.
 -- Assumes nothing.
-use mathlib.Core.List.{List, [], ◌∷◌}
+use mathlib.Core.List.{[], ◌∷◌}
 use mathlib.Core.Path.{◌≡◌, refl}
 use Prim.Native.Nat.{ℕ, ◌≤◌}
 use borrow.Author.Tests.{ne_eqb}
 use lib.Dec.{lit≤}
 use Rattle.text.specs.declared.Text.{Text}
-use Rattle.text.specs.Text.{Part, figure, said, text_of}
+use Rattle.text.specs.Text.{figure, said, text_of}
 use Rattle.text.proofs.Laws.{most, Spoken, spoken_whole}
 use Rattle.pixel.specs.Words.{sentence}
 use Rattle.pixel.proofs.words.of.Goals as goal

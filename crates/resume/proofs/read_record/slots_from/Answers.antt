@@ -1,7 +1,6 @@
 -- `resume::read_record::slots_from` meets its contract: at each turn the slots passed are the first pixels of the
 -- bytes.
 -- Assumes nothing.
-use Prim.Native.Nat.{◌-◌}
 use mathlib.Core.Path.{◌≡◌, refl, sym, ◌∙◌, ap}
 use mathlib.Core.List.{List, [], ◌∷◌, ◌++◌}
 use native.Mathlib.Numerals.{add-one}

@@ -1,7 +1,7 @@
 -- `resume::write_record::put_slots` meets its contract: at each turn the slots still to come, put here, make the
 -- whole answer.
 -- Assumes nothing.
-use Prim.Native.Nat.{suc, ◌<◌, ◌-◌}
+use Prim.Native.Nat.{suc, ◌<◌}
 use mathlib.Core.Path.{◌≡◌, refl, sym, ◌∙◌}
 use mathlib.Core.List.{[]}
 use native.Mathlib.Nat.{add-zero}

@@ -3,9 +3,8 @@
 use mathlib.Core.Path.{◌≡◌, sym, ◌∙◌, ap}
 use mathlib.Core.List.{List, ◌++◌}
 use Prim.Native.Nat.{ℕ, ◌≤◌}
-use native.Mathlib.Omega.{arith}
 use borrow.Author.Tests.{lt-ltb}
-use lib.ListN.{length, take, drop}
+use lib.ListN.{length, drop}
 use Rattle.text.specs.Text.{text_of, put_over}
 use Rattle.text.proofs.Laws.{as_long, put_room}
 use Rattle.text.proofs.Text.put.Goals as goal

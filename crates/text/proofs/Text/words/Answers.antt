@@ -1,7 +1,6 @@
 -- `text::Text::words` meets its contract: at each turn the text so far and the words left are the text to be.
 -- Assumes nothing.
 use mathlib.Core.Path.{refl, sym, ◌∙◌, ap}
-use Prim.Native.Nat.{◌-◌}
 use borrow.Author.Rules.{rules}
 use lib.ListN.{length-set, drop_of_length-le}
 use Rattle.text.specs.Text.{clipped}

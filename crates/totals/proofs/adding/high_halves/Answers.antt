@@ -1,6 +1,6 @@
 -- `totals::adding::high_halves` meets its contract: the sum so far is at least each high half passed.
 -- Assumes nothing.
-use Prim.Native.Nat.{◌-◌, ◌≤◌, ◌<◌}
+use Prim.Native.Nat.{◌≤◌, ◌<◌}
 use native.Mathlib.Omega.{arith}
 use borrow.Author.Count.{below_more}
 use Rattle.totals.proofs.adding.high_halves.Goals as goal

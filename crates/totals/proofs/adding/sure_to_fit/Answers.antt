@@ -1,6 +1,6 @@
 -- `totals::adding::sure_to_fit` meets its contract: the high half of each total passed is below 2^32-1.
 -- Assumes nothing.
-use Prim.Native.Nat.{◌+◌, ◌-◌, ◌≤◌, ◌<◌}
+use Prim.Native.Nat.{◌+◌, ◌≤◌, ◌<◌}
 use native.Mathlib.Omega.{arith}
 use lib.ListN.{length}
 use Rattle.totals.proofs.Sums.{high_on}

@@ -1,7 +1,7 @@
 -- `walk::fill::pages_four` meets its contract: each turn fills on from where the one before it ended.
 -- Assumes nothing.
 use mathlib.Core.Path.{refl, ◌∙◌}
-use Prim.Native.Nat.{◌+◌, ◌-◌}
+use Prim.Native.Nat.{◌+◌}
 use native.Mathlib.Omega.{arith}
 use Rattle.walk.proofs.Pasting.{fills_none, fills_on}
 use Rattle.walk.proofs.fill.pages_four.Goals as goal

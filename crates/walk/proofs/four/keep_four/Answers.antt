@@ -2,7 +2,7 @@
 -- Assumes nothing.
 use mathlib.Core.Path.{◌∙◌, ap, ap₂}
 use mathlib.Core.List.{map}
-use Prim.Native.Nat.{◌*◌, ◌<◌}
+use Prim.Native.Nat.{◌*◌}
 use native.Mathlib.Omega.{arith}
 use lib.ListN.{set}
 use Rattle.pixel.specs.declared.Pixel.{Pixel}

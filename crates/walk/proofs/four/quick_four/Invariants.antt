@@ -1,6 +1,6 @@
 -- What the loop of `four::quick_four` keeps, and why it ends.
 use mathlib.Core.List.{map}
-use Prim.Native.Nat.{◌+◌, ◌-◌}
+use Prim.Native.Nat.{◌+◌}
 use Rattle.pixel.specs.Packed.{unpacked}
 use Rattle.walk.specs.Asked.{spot_at}
 use Rattle.walk.proofs.Quick.{Head}
