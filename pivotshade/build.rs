@@ -36,7 +36,7 @@ fn of_the_repository() -> PathBuf {
     let set = |variable| env::var(variable).expect("cargo sets it");
     let (processor, system) = (set("CARGO_CFG_TARGET_ARCH"), set("CARGO_CFG_TARGET_OS"));
     let (folder, command) = match (processor.as_str(), system.as_str()) {
-        ("x86_64", "linux") => ("target/staticlib", "rt staticlib qoi"),
+        ("x86_64", "linux") => ("target/staticlib", "tools/native-archive x86_64"),
         // ARCH is the machine's that builds
         ("aarch64", "linux") if ARCH == "aarch64" => ("target/native", "tools/native-archive"),
         ("aarch64", "linux") => ("target/aarch64", "tools/native-archive aarch64"),

@@ -107,35 +107,46 @@ prove_showing() {
 }
 # show_proofs: reads what native-archive prints, and says how many crates are proved and which was the last: on a terminal in one line, else in one each
 show_proofs() {
-    local all proved=0 last='' line shown='' start=$'\r\e[K' end='' about='proving and compiling the codec, some minutes the first time: '
-    all=$(crates_of_qoi)
+    local all crates crate='' last='' proved=0 at line now shown='' start=$'\r\e[K' end='' about='proving and compiling the codec, some minutes the first time: '
+    mapfile -t crates < <(crates_of_qoi)
+    all=${#crates[@]}
     [ -t 2 ] || { start='' end=$'\n'; }
     while IFS= read -r line; do
         case $line in
             "native-archive: proving "*) ;;
-            "rt: "*" proved ("*) proved=$((proved + 1)) last=${line#rt: } last=", ${last%% *}" ;;
-            "native-archive: "*" is there") proved=$all last=", qoi" ;;
+            "rt: chose --jobs "*" for "*)
+                crate=${line##* }
+                continue
+                ;;
+            # what stands lower was proved before it, now or earlier
+            "logic=proved "*)
+                for at in "${!crates[@]}"; do [ "${crates[at]}" != "$crate" ] || proved=$((at + 1)); done
+                last=", $crate"
+                ;;
+            "native-archive: "*" is there") proved=$all last=", ${crates[-1]}" ;;
             *) continue ;;
         esac
-        printf '%s' "$start$about$proved of $all crates$last$end" >&2
+        now="$proved of $all crates$last"
+        [ "$now" != "$shown" ] || continue
+        printf '%s' "$start$about$now$end" >&2
         [ -z "$end" ] || about=''
-        shown=yes
+        shown=$now
     done
     # a terminal's line is still open
     [ -z "$shown" ] || [ -n "$end" ] || echo >&2
 }
-# crates_of_qoi: how many crates crate qoi stands on, itself counted
+# crates_of_qoi: the crates that crate qoi_c stands on, each after those that it stands on, and itself
 crates_of_qoi() {
     awk -F: '
         function visit(name,    below, n, i) {
             if (!(name in stands_on) || name in seen) return
             seen[name]
-            count++
             n = split(stands_on[name], below, " ")
             for (i = 1; i <= n; i++) visit(below[i])
+            print name
         }
-        /^[^#]/ { stands_on[$1] = $2 }
-        END { visit("qoi"); print count }' "$root/crates.txt"
+        /^[^#]/ { split($1, word, " "); stands_on[word[1]] = $2 }
+        END { visit("qoi_c") }' "$root/crates.txt"
 }
 
 # build_host FOLDER NAME CARGO...: builds the host in target/host/NAME, with the archive libqoi.a of target/FOLDER, by CARGO with its options

@@ -16,7 +16,6 @@ use Rattle.rules.specs.Chunk as table
 use Rattle.rules.specs.Step.{State, Ran, going, ended, output_of}
 use Rattle.rules.specs.Strict.{accepted, rejected}
 use Rattle.rules.specs.Strict as strict
-use Rattle.chunk.specs.declared.Colour.{Colour}
 use Rattle.chunk.specs.declared.Colour.TheVariants as colour
 use Rattle.chunk.specs.declared.Found.{Found}
 use Rattle.chunk.specs.declared.Found.TheVariants as found

@@ -1,4 +1,5 @@
-// The functions that a host calls: each returns 0 or document 01's refusal number, and fills four figures.
+// The functions that a host calls: each returns 0 or document 01's refusal number, and fills four figures. A library
+// exports nothing: C links crate `qoi_c`, which calls these by the same names.
 #![tactic(auto)]
 
 ghost use Rattle.std.specs.Prelude.{◌≡◌, ◌∷◌, []};

@@ -40,6 +40,7 @@ pub fn print_line(stdout: Stdout, input: &[u8]) -> usize
 }
 
 // What is said of an input.
+#[tactic(auto, using(crate::proofs::LineLaws::long_line))]
 fn told(input: &[u8]) -> Text
     ensures { text_of result ≡ line_of input.now }
 {
