@@ -1,6 +1,7 @@
 -- The uncut decode's course: what holds of every state on it; a start is on it, a chunk leads along it, and where it
 -- ends the uncut decode ends.
 -- Assumes nothing.
+use Rattle.std.specs.Prelude.{Result, Ok, Err}
 use mathlib.Core.Path.{◌≡◌, refl, sym, ◌∙◌, ap}
 use mathlib.Core.List.{List, ◌++◌, append-nil}
 use Prim.Native.Nat.{ℕ, ◌+◌, ◌^◌, ◌≤◌, ◌<◌, zero-le}
@@ -13,12 +14,8 @@ use lib.Seq.{length-take-le, take_at}
 use Rattle.pixel.specs.declared.error.Error.TheVariants.{OutputBufferTooSmall}
 use Rattle.pixel.specs.declared.types.Channels.{Channels}
 use Rattle.pixel.specs.declared.types.Channels.TheVariants.{Rgb, Rgba}
-use Rattle.pixel.specs.declared.types.ChannelsRead.{ChannelsRead}
-use Rattle.pixel.specs.declared.types.ChannelsRead.TheVariants as channels_read
 use Rattle.pixel.specs.Types.{channels_number, channels_from}
 use Rattle.header.specs.declared.Header.{Header}
-use Rattle.header.specs.declared.HeaderRead.{HeaderRead}
-use Rattle.header.specs.declared.HeaderRead.TheVariants as header_read
 use Rattle.header.specs.Header.{pixel_count, header_of}
 use Rattle.header.proofs.Laws.{header_accepted, sides_fit}
 use Rattle.rules.specs.Chunk.{Chunk}
@@ -31,13 +28,14 @@ use Rattle.rules.proofs.ReadingLaws.{after_after, remaining_unfolds}
 use Rattle.rules.proofs.RecordLaws.{formed, forms, left_adds, wanted_few, refused_is_no_start}
 use Rattle.demands.specs.TakeOver.{bytes_before}
 use Rattle.rules.proofs.StepLaws.{next_state, bytes_by, move_from, needed, well_next}
+use Rattle.pixel.specs.declared.error.Error.{Error}
 
 -- what a start that is accepted has read
 record Opening (m : List ℕ) (number w : ℕ) (s : State) : Type 0 where
   header : Header
   channels : Channels
-  reads : header_of m ≡ header_read.Ok header
-  wants : channels_from w ≡ channels_read.Ok channels
+  reads : header_of m ≡ Ok header
+  wants : channels_from w ≡ Ok channels
   is : start_state header number (channels_number channels) ≡ s
 
 opening : (m : List ℕ) (number w : ℕ) (s : State) → starting m number w ≡ started s → Opening m number w s
@@ -45,15 +43,15 @@ unfolding starting start_header start_wanted
 opening m number w s e = heading (header_of m) refl e
   where
     wanting :
-        (header : Header) → header_of m ≡ header_read.Ok header → (c : ChannelsRead) → channels_from w ≡ c
+        (header : Header) → header_of m ≡ Ok header → (c : Result Channels Error) → channels_from w ≡ c
         → start_wanted header number c ≡ started s → Opening m number w s
-    wanting header reads (channels_read.Refused x) wants e = absurd (refused_is_no_start e)
-    wanting header reads (channels_read.Ok channels) wants e =
+    wanting header reads (Err x) wants e = absurd (refused_is_no_start e)
+    wanting header reads (Ok channels) wants e =
         record { header = header; channels = channels; reads = reads; wants = wants; is = cc }
 
-    heading : (r : HeaderRead) → header_of m ≡ r → start_header number w r ≡ started s → Opening m number w s
-    heading (header_read.Refused x) reads e = absurd (refused_is_no_start e)
-    heading (header_read.Ok header) reads e = wanting header reads (channels_from w) refl e
+    heading : (r : Result Header Error) → header_of m ≡ r → start_header number w r ≡ started s → Opening m number w s
+    heading (Err x) reads e = absurd (refused_is_no_start e)
+    heading (Ok header) reads e = wanting header reads (channels_from w) refl e
 
 -- the uncut decode reads with the header and the channels that a start takes
 uncut_reads :
@@ -112,7 +110,7 @@ module _ (m : List ℕ) (w : ℕ) where
 
   -- a start is on course
   start_on_course :
-      (header : Header) (number : ℕ) (c : Channels) → header_of m ≡ header_read.Ok header → length m < 2 ^ 64
+      (header : Header) (number : ℕ) (c : Channels) → header_of m ≡ Ok header → length m < 2 ^ 64
       → number < 2 ^ 64 → Opens header (channels_number c) → OnCourse (start_state header number (channels_number c))
   unfolding start_place whole_from
   start_on_course header number c reads small fits e =

@@ -1,6 +1,7 @@
 -- The strict check accepts exactly if a decode accepts, no run is longer than the pixels left and nothing follows the
 -- marker; and it counts what was read.
 -- Assumes nothing.
+use Rattle.std.specs.Prelude.{Result, Ok, Err}
 use mathlib.Core.Path.{◌≡◌, refl, sym, ◌∙◌, ap}
 use mathlib.Core.Bool.{Bool, true, false, cond, not}
 use mathlib.Core.List.{List, [], ◌∷◌}
@@ -16,13 +17,9 @@ use Rattle.pixel.specs.declared.error.Error.{Error}
 use Rattle.pixel.specs.declared.error.Error.TheVariants.{InvalidPadding, OutputBufferTooSmall, RunPastImage, BytesAfterMarker}
 use Rattle.pixel.specs.Refusal.{ended_early}
 use Rattle.pixel.specs.declared.types.Channels.{Channels}
-use Rattle.pixel.specs.declared.types.ChannelsRead.{ChannelsRead}
-use Rattle.pixel.specs.declared.types.ChannelsRead.TheVariants as channels_read
 use Rattle.pixel.specs.Colour.{start_pixel}
 use Rattle.pixel.specs.Types.{channels_number, channels_from}
 use Rattle.header.specs.declared.Header.{Header}
-use Rattle.header.specs.declared.HeaderRead.{HeaderRead}
-use Rattle.header.specs.declared.HeaderRead.TheVariants as header_read
 use Rattle.header.specs.Header.{pixel_count, header_of}
 use Rattle.rules.specs.Chunk.{Chunk, Found, cut, chunk, chunk_at, times_of, size_of, INDEX, DIFF, LUMA, RUN, RGB, RGBA, Stuck}
 use Rattle.rules.specs.Bytes.{same_bytes}
@@ -189,7 +186,7 @@ module _ (header : Header) (message : List ℕ) (wanted : ℕ) where
 
 -- the verdict on a whole message whose header is known
 whole_verdict :
-    (m : List ℕ) (header : Header) (wanted : ℕ) → header_of m ≡ header_read.Ok header
+    (m : List ℕ) (header : Header) (wanted : ℕ) → header_of m ≡ Ok header
     → Verdict header m wanted 0 (strict m) (remaining decoder header wanted m start_place).answer (trace m)
 unfolding strict strict_header start_place
 whole_verdict m header wanted reads =
@@ -201,7 +198,7 @@ whole_verdict m header wanted reads =
 record Opened (m : List ℕ) (w room size used : ℕ) : Type 0 where
   header : Header
   channels : Channels
-  reads : header_of m ≡ header_read.Ok header
+  reads : header_of m ≡ Ok header
   ends : (remaining decoder header (channels_number channels) m start_place).answer ≡ done size used
 
 opened : (m : List ℕ) (w room size used : ℕ) → (decoding m w room).answer ≡ done size used → Opened m w room size used
@@ -209,21 +206,21 @@ unfolding whole_reading after_header after_wanted reading_into
 opened m w room size used = heading (header_of m) refl
   where
     roomy :
-        (header : Header) (c : Channels) → header_of m ≡ header_read.Ok header → (b : Bool)
+        (header : Header) (c : Channels) → header_of m ≡ Ok header → (b : Bool)
         → (cond b (silent (refused (OutputBufferTooSmall room (size_wanted header (channels_number c))))) (remaining decoder header (channels_number c) m start_place)).answer
         ≡ done size used → Opened m w room size used
     roomy header c reads true e = absurd (refused_is_not_done e)
     roomy header c reads false e = record { header = header; channels = c; reads = reads; ends = e }
 
     wanting :
-        (header : Header) → header_of m ≡ header_read.Ok header → (c : ChannelsRead) → (after_wanted decoder m room header c).answer ≡ done size used
+        (header : Header) → header_of m ≡ Ok header → (c : Result Channels Error) → (after_wanted decoder m room header c).answer ≡ done size used
         → Opened m w room size used
-    wanting header reads (channels_read.Refused x) e = absurd (refused_is_not_done e)
-    wanting header reads (channels_read.Ok c) e = roomy header c reads (ltb room (size_wanted header (channels_number c))) e
+    wanting header reads (Err x) e = absurd (refused_is_not_done e)
+    wanting header reads (Ok c) e = roomy header c reads (ltb room (size_wanted header (channels_number c))) e
 
-    heading : (r : HeaderRead) → header_of m ≡ r → (after_header decoder m room w r).answer ≡ done size used → Opened m w room size used
-    heading (header_read.Refused x) reads e = absurd (refused_is_not_done e)
-    heading (header_read.Ok header) reads e = wanting header reads (channels_from w) e
+    heading : (r : Result Header Error) → header_of m ≡ r → (after_header decoder m room w r).answer ≡ done size used → Opened m w room size used
+    heading (Err x) reads e = absurd (refused_is_not_done e)
+    heading (Ok header) reads e = wanting header reads (channels_from w) e
 
 -- what an accepting verdict tells
 record Told (h header : Header) (m : List ℕ) (wanted chunks bytes : ℕ) (ends : Answer) (read : List Visit) : Type 0 where
@@ -248,9 +245,9 @@ pub strict_accepts : (m : List ℕ) (header : Header) (chunks bytes : ℕ) → s
 unfolding strict strict_header reading_into
 strict_accepts m header chunks bytes says = heading (header_of m) refl says
   where
-    heading : (r : HeaderRead) → header_of m ≡ r → strict_header m r ≡ accepted header chunks bytes → Passes m header chunks bytes
-    heading (header_read.Refused x) reads e = absurd (rejected_is_not_accepted e)
-    heading (header_read.Ok h) reads e = rw (← (at h.channels).same) passed
+    heading : (r : Result Header Error) → header_of m ≡ r → strict_header m r ≡ accepted header chunks bytes → Passes m header chunks bytes
+    heading (Err x) reads e = absurd (rejected_is_not_accepted e)
+    heading (Ok h) reads e = rw (← (at h.channels).same) passed
       where
         at : (c : Channels) → Told h header m (channels_number c) chunks bytes (remaining decoder h (channels_number c) m start_place).answer (trace m)
         at c = told h header m (channels_number c) chunks bytes (strict m) _ (trace m) says (whole_verdict m h (channels_number c) reads)
@@ -279,7 +276,7 @@ strict_must_accept m w room size used e runs nothing-follows =
     go :
         (o : Opened m w room size used)
         → Verdict o.header m (channels_number o.channels) 0 (strict m) (remaining decoder o.header (channels_number o.channels) m start_place).answer (trace m)
-        → (header : Header) × (header_of m ≡ header_read.Ok header) × (strict m ≡ accepted header (chunk_count m) used)
+        → (header : Header) × (header_of m ≡ Ok header) × (strict m ≡ accepted header (chunk_count m) used)
     go o (passes says ends fit) =
         let same : length m ≡ used = done_used (sym ends ∙ o.ends) in
         (o.header, o.reads, says ∙ rw (zero-add, same))

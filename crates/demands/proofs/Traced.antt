@@ -1,6 +1,7 @@
 -- The trace of a stream of the encoder is its chunks, each in its place; they bring the picture's pixels and no more,
 -- so no run is longer than the pixels left.
 -- Assumes nothing.
+use Rattle.std.specs.Prelude.{Ok}
 use mathlib.Core.Path.{◌≡◌, refl, sym, ◌∙◌, ap}
 use mathlib.Core.Bool.{Bool, true, false, cond}
 use mathlib.Core.List.{List, [], ◌∷◌, ◌++◌, append_assoc}
@@ -15,7 +16,6 @@ use Rattle.pixel.specs.Bytes.{AllBytes, pixels_from}
 use Rattle.pixel.specs.Colour.{red, green, blue, alpha, wrapped_difference}
 use Rattle.pixel.specs.Types.{channels_number}
 use Rattle.header.specs.declared.Header.{Header}
-use Rattle.header.specs.declared.HeaderRead.TheVariants as header_read
 use Rattle.header.specs.Header.{pixel_count, dimensions_fit, header_of, header_bytes}
 use Rattle.header.proofs.Laws.{header_read_back, header_length, sides_fit}
 use Rattle.rules.specs.Chunk.{Chunk, times_of, size_of, INDEX, DIFF, LUMA, RUN, RGB, RGBA, Stuck}
@@ -175,7 +175,7 @@ chunks_times (p ∷ rest) pen none =
 
 module _ (header : Header) (picture : List ℕ) (fit : T (dimensions_fit header.width header.height)) where
   -- the header of a stream is read
-  pub stream_opens : header_of (stream_of header picture) ≡ header_read.Ok header
+  pub stream_opens : header_of (stream_of header picture) ≡ Ok header
   unfolding stream_of
   stream_opens =
       let sides = sides_fit header fit in

@@ -1,6 +1,7 @@
 -- What an encode that is accepted wrote: the stream of its picture under its header; and that it accepts every picture
 -- of a header.
 -- Assumes nothing.
+use Rattle.std.specs.Prelude.{Result, Ok, Err}
 use mathlib.Core.Path.{◌≡◌, refl, ◌∙◌, ap}
 use mathlib.Core.Bool.{Bool, true, false, cond}
 use mathlib.Core.List.{List}
@@ -13,12 +14,8 @@ use lib.ListN.{length}
 use Rattle.pixel.specs.declared.error.Error.{Error}
 use Rattle.pixel.specs.declared.error.Error.TheVariants.{OutputBufferTooSmall}
 use Rattle.pixel.specs.declared.types.ColorSpace.{ColorSpace}
-use Rattle.pixel.specs.declared.types.ColorSpaceRead.{ColorSpaceRead}
-use Rattle.pixel.specs.declared.types.ColorSpaceRead.TheVariants as colorspace_read
 use Rattle.pixel.specs.Types.{channels_number, color_space_from}
 use Rattle.header.specs.declared.Header.{Header}
-use Rattle.header.specs.declared.HeaderRead.{HeaderRead}
-use Rattle.header.specs.declared.HeaderRead.TheVariants as header_read
 use Rattle.header.specs.Header.{pixel_count, dimensions_fit, header_from, default_header, encoded_room, with_color_space}
 use Rattle.header.proofs.Laws.{is_true, both, channels_read_back, color_space_read_back}
 use Rattle.rules.specs.Encode.{PictureOf, stream_of, Encoding, encoded, not_encoded, nothing_encoded, after_length, after_dimensions, picture_header, encoding_into, after_space, after_picture_header, encoding}
@@ -38,7 +35,7 @@ module _ (picture : List ℕ) (width height colorspace room size : ℕ) where
 
   module _ (plain : Header) (headed : Headed picture width height plain) where
     -- into its room
-    into_writes : (s : ColorSpace) → color_space_from colorspace ≡ colorspace_read.Ok s → Writes (encoding_into picture room (with_color_space plain s))
+    into_writes : (s : ColorSpace) → color_space_from colorspace ≡ Ok s → Writes (encoding_into picture room (with_color_space plain s))
     unfolding encoding_into
     into_writes s read = go (ltb room required) refl
       where
@@ -68,16 +65,16 @@ module _ (picture : List ℕ) (width height colorspace room size : ℕ) where
             }
 
     -- with its colour space
-    space_writes : (read : ColorSpaceRead) → color_space_from colorspace ≡ read → Writes (after_space picture room plain read)
+    space_writes : (read : Result ColorSpace Error) → color_space_from colorspace ≡ read → Writes (after_space picture room plain read)
     unfolding after_space
-    space_writes (colorspace_read.Refused x) is e = absurd (refused_is_no_encode e)
-    space_writes (colorspace_read.Ok s) is e = into_writes s is e
+    space_writes (Err x) is e = absurd (refused_is_no_encode e)
+    space_writes (Ok s) is e = into_writes s is e
 
   -- with its header
-  header_writes : (read : HeaderRead) → picture_header picture width height ≡ read → Writes (after_picture_header picture room colorspace read)
+  header_writes : (read : Result Header Error) → picture_header picture width height ≡ read → Writes (after_picture_header picture room colorspace read)
   unfolding after_picture_header
-  header_writes (header_read.Refused x) is e = absurd (refused_is_no_encode e)
-  header_writes (header_read.Ok plain) is e =
+  header_writes (Err x) is e = absurd (refused_is_no_encode e)
+  header_writes (Ok plain) is e =
       space_writes plain (picture_headed picture width height plain is) (color_space_from colorspace) refl e
 
   -- whatever an encode that is accepted wrote is the stream
@@ -98,7 +95,7 @@ module _ (header : Header) (picture : List ℕ) (of : PictureOf header picture) 
   even = mod-eq-sub-mul-div (length picture) n ∙ rw (quotient) (omega (arith, of.needed))
 
   -- its header is that of its dimensions and its length
-  header_is : picture_header picture header.width header.height ≡ header_read.Ok (with_color_space header default_header.colorspace)
+  header_is : picture_header picture header.width header.height ≡ Ok (with_color_space header default_header.colorspace)
   unfolding picture_header header_from after_dimensions after_length
   header_is =
       rw (is_true (dimensions_fit header.width header.height) of.fit, eq-eqb (length picture % n) 0 even, quotient, channels_read_back header.channels)

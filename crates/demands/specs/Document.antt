@@ -1,7 +1,6 @@
 -- Against the document, (b): what is said of a message that the decoder accepts at the header's own channels.
-use Rattle.std.specs.Prelude.{List, ◌≡◌, ℕ, T}
+use Rattle.std.specs.Prelude.{List, ◌≡◌, ℕ, T, Ok}
 use Rattle.header.specs.declared.Header.{Header}
-use Rattle.header.specs.declared.HeaderRead.TheVariants as header_read
 use Rattle.header.specs.Header.{header_of}
 use Rattle.rules.specs.Reading.{done}
 use Rattle.rules.specs.Decode.{decoding}
@@ -12,6 +11,6 @@ use Rattle.rules.specs.Document.{document_reading, indexes_filled}
 -- decoder's: its bytes and its answer
 abbrev pub DocumentAgrees : List ℕ → Type 0
 DocumentAgrees m =
-    (header : Header) (room size used : ℕ) → header_of m ≡ header_read.Ok header
+    (header : Header) (room size used : ℕ) → header_of m ≡ Ok header
     → (decoding m (own_channels header) room).answer ≡ done size used → T (indexes_filled m)
     → document_reading m (own_channels header) room ≡ decoding m (own_channels header) room

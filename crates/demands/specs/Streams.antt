@@ -1,7 +1,5 @@
 -- The encoder's streams: what the strict check says of them, and that they keep the condition of (b).
-use Rattle.std.specs.Prelude.{List, ◌≡◌, ℕ, ◌*◌, ◌/◌, ◌≤◌, T, length}
-use Rattle.pixel.specs.declared.types.ChannelsRead.TheVariants as channels_read
-use Rattle.pixel.specs.declared.types.ColorSpaceRead.TheVariants as colorspace_read
+use Rattle.std.specs.Prelude.{List, ◌≡◌, ℕ, ◌*◌, ◌/◌, ◌≤◌, T, length, Ok}
 use Rattle.pixel.specs.Types.{channels_number, channels_from, color_space_number, color_space_from}
 use Rattle.header.specs.declared.Header.{Header}
 use Rattle.header.specs.Header.{encoded_room}
@@ -32,8 +30,8 @@ pub record Wrote (picture stream : List ℕ) (width height colorspace room size 
   pub header : Header
   pub width_is : header.width ≡ width
   pub height_is : header.height ≡ height
-  pub channels_are : channels_from (length picture / (width * height)) ≡ channels_read.Ok header.channels
-  pub colorspace_is : color_space_from colorspace ≡ colorspace_read.Ok header.colorspace
+  pub channels_are : channels_from (length picture / (width * height)) ≡ Ok header.channels
+  pub colorspace_is : color_space_from colorspace ≡ Ok header.colorspace
   pub picture_is : PictureOf header picture
   pub roomy : encoded_room header.width header.height (channels_number header.channels) ≤ room
   pub stream_is : stream ≡ stream_of header picture

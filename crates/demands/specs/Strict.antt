@@ -1,10 +1,9 @@
 -- The strict check against the decode: it accepts exactly if a decode accepts, no run is longer than the pixels left,
 -- and nothing follows the marker.
-use Rattle.std.specs.Prelude.{List, [], ◌≡◌, ℕ, ◌≤◌, T, length}
+use Rattle.std.specs.Prelude.{List, [], ◌≡◌, ℕ, ◌≤◌, T, length, Ok}
 use Rattle.pixel.specs.declared.types.Channels.{Channels}
 use Rattle.pixel.specs.Types.{channels_number}
 use Rattle.header.specs.declared.Header.{Header}
-use Rattle.header.specs.declared.HeaderRead.TheVariants as header_read
 use Rattle.header.specs.Header.{header_of}
 use Rattle.rules.specs.Reading.{done, size_wanted}
 use Rattle.rules.specs.Decode.{decoding, rest_of}
@@ -12,7 +11,7 @@ use Rattle.rules.specs.Strict.{accepted, strict, runs_fit, chunk_count}
 
 -- what is so of a message that the strict check accepts, with its figures
 pub record Passes (m : List ℕ) (header : Header) (chunks bytes : ℕ) : Type 0 where
-  pub reads : header_of m ≡ header_read.Ok header
+  pub reads : header_of m ≡ Ok header
   -- a decode accepts it, at 3 and at 4 channels, into any room that is enough, and uses `bytes` bytes
   pub decodes :
       (c : Channels) (room : ℕ) → size_wanted header (channels_number c) ≤ room
@@ -29,4 +28,4 @@ pub record Passes (m : List ℕ) (header : Header) (chunks bytes : ℕ) : Type 0
 abbrev pub MustPass : List ℕ → Type 0
 MustPass m =
     (wanted room size used : ℕ) → (decoding m wanted room).answer ≡ done size used → T (runs_fit m) → rest_of m (done size used) ≡ []
-    → (header : Header) × (header_of m ≡ header_read.Ok header) × (strict m ≡ accepted header (chunk_count m) used)
+    → (header : Header) × (header_of m ≡ Ok header) × (strict m ≡ accepted header (chunk_count m) used)

@@ -1,10 +1,11 @@
 -- The laws of the header: its bytes read back, how many they are, what an accepted header is like, and that it is
 -- written back. Assumes nothing.
+use Rattle.std.specs.Prelude.{Result, Ok, Err}
 use mathlib.Core.Path.{◌≡◌, refl, sym, ◌∙◌, ap, ap₂, subst}
 use mathlib.Core.Bool.{Bool, true, false, cond, ◌&&◌}
 use mathlib.Core.List.{List, [], ◌∷◌, ◌++◌}
 use Prim.Native.Nat.{ℕ, zero, suc, ◌+◌, ◌*◌, ◌/◌, ◌%◌, ◌^◌, ◌≤◌, ◌<◌}
-use native.Mathlib.Nat.{zero-mul, mul-zero, mul_comm, le-mul_of_pos_right, le_of_lt, lt_of_le_of_lt, mul-le-mul_left, mul-lt-mul_of_pos_right, mod-eq_of_lt, div-div-eq-div-mul}
+use native.Mathlib.Nat.{zero-mul, mul-zero, mul_comm, le-mul_of_pos_right, le_of_lt, lt_of_le_of_lt, mul-le-mul_left, mul-lt-mul_of_pos_right}
 use native.Mathlib.Numerals.{add-one, add-two, add-three}
 use native.Mathlib.Omega.{arith}
 use lib.Dec.{T, ltb, leb, eqb, leb→le, eqb→eq, lit<}
@@ -13,21 +14,13 @@ use lib.Seq.{drop-cons}
 use borrow.Author.Tests.{le-ltb, ltb-false, eqb-true}
 use Rattle.pixel.specs.Bytes.{AllBytes}
 use Rattle.pixel.specs.Types.{channels_number, color_space_number, channels_from, color_space_from}
-use Rattle.pixel.specs.Colour.{red, green, blue, alpha}
-use Rattle.pixel.specs.Packed.{packed_of, unpacked}
-use Rattle.pixel.proofs.PackedLaws.{unpacked_packed}
+use Rattle.std.proofs.lemmas.Nat.{from_be_bytes-to_be_bytes_4, be_bytes_4}
 use Rattle.pixel.specs.declared.error.Error.{Error}
 use Rattle.pixel.specs.declared.types.Channels.{Channels}
 use Rattle.pixel.specs.declared.types.Channels.TheVariants.{Rgb, Rgba}
 use Rattle.pixel.specs.declared.types.ColorSpace.{ColorSpace}
 use Rattle.pixel.specs.declared.types.ColorSpace.TheVariants.{Srgb, Linear}
-use Rattle.pixel.specs.declared.types.ChannelsRead.{ChannelsRead}
-use Rattle.pixel.specs.declared.types.ChannelsRead.TheVariants as channels_read
-use Rattle.pixel.specs.declared.types.ColorSpaceRead.{ColorSpaceRead}
-use Rattle.pixel.specs.declared.types.ColorSpaceRead.TheVariants as colorspace_read
 use Rattle.header.specs.declared.Header.{Header}
-use Rattle.header.specs.declared.HeaderRead.{HeaderRead}
-use Rattle.header.specs.declared.HeaderRead.TheVariants.{Ok, Refused}
 use Rattle.header.specs.Header.{pixel_count, dimensions_fit, big_endian, big_endian_bytes, header_bytes, header_from, magic_number, number_at, after_color_space, after_channels, header_of}
 
 -- two numbers of 32 bits have a product of 64
@@ -37,15 +30,13 @@ product_fits {a} ha hb = lt_of_le_of_lt (mul-le-mul_left a (le_of_lt hb)) (mul-l
 -- a 32-bit number is read back from its four bytes
 big_endian_read_back :
     (n : ℕ) → n < 2 ^ 32 → big_endian (n / 16777216 % 256) (n / 65536 % 256) (n / 256 % 256) (n % 256) ≡ n
-big_endian_read_back n small =
-    let top : n / 16777216 % 256 ≡ n / 16777216 = mod-eq_of_lt (omega arith) in
-    omega (arith, div-div-eq-div-mul n 256 256, div-div-eq-div-mul n 65536 256)
+big_endian_read_back n small = from_be_bytes-to_be_bytes_4 n small
 
-pub channels_read_back : (c : Channels) → channels_from (channels_number c) ≡ channels_read.Ok c
+pub channels_read_back : (c : Channels) → channels_from (channels_number c) ≡ Ok c
 channels_read_back Rgb = refl
 channels_read_back Rgba = refl
 
-pub color_space_read_back : (s : ColorSpace) → color_space_from (color_space_number s) ≡ colorspace_read.Ok s
+pub color_space_read_back : (s : ColorSpace) → color_space_from (color_space_number s) ≡ Ok s
 color_space_read_back Srgb = refl
 color_space_read_back Linear = refl
 
@@ -99,21 +90,21 @@ pub record Accepted (bytes : List ℕ) (h : Header) : Type 0 where
   pub channels_is : channels_number h.channels ≡ get_or bytes 12 0
   pub space_is : color_space_number h.colorspace ≡ get_or bytes 13 0
 
-refused_is_not_ok : (e : Error) (h : Header) → Refused e ≡ Ok h → ⊥
+refused_is_not_ok : (e : Error) (h : Header) → Err e ≡ Ok h → ⊥
 refused_is_not_ok e h p = let z : ◌≡◌ {A = ℕ} 0 1 = cc in omega arith
 
 -- a test that passed, where failing is a refusal
-passed : (b : Bool) (r : HeaderRead) (e : Error) (h : Header) → cond b r (Refused e) ≡ Ok h → T b × (r ≡ Ok h)
+passed : (b : Bool) (r : Result Header Error) (e : Error) (h : Header) → cond b r (Err e) ≡ Ok h → T b × (r ≡ Ok h)
 passed true r e h p = (tt, p)
 passed false r e h p = absurd (refused_is_not_ok e h p)
 
 -- a test that failed, where passing is a refusal
-failed : (b : Bool) (r : HeaderRead) (e : Error) (h : Header) → cond b (Refused e) r ≡ Ok h → (b ≡ false) × (r ≡ Ok h)
+failed : (b : Bool) (r : Result Header Error) (e : Error) (h : Header) → cond b (Err e) r ≡ Ok h → (b ≡ false) × (r ≡ Ok h)
 failed true r e h p = absurd (refused_is_not_ok e h p)
 failed false r e h p = (refl, p)
 
 -- a number that is a channel count is that count's
-pub channels_number_lem : (n : ℕ) (c : Channels) → channels_from n ≡ channels_read.Ok c → channels_number c ≡ n
+pub channels_number_lem : (n : ℕ) (c : Channels) → channels_from n ≡ Ok c → channels_number c ≡ n
 channels_number_lem n c p = go (eqb n 3) refl (eqb n 4) refl
   where
     go : (three : Bool) → eqb n 3 ≡ three → (four : Bool) → eqb n 4 ≡ four → channels_number c ≡ n
@@ -122,7 +113,7 @@ channels_number_lem n c p = go (eqb n 3) refl (eqb n 4) refl
     go false e false f = cc (rw (e, f) at p)
 
 -- a number that is a colour space is that colour space's
-pub space_number : (n : ℕ) (s : ColorSpace) → color_space_from n ≡ colorspace_read.Ok s → color_space_number s ≡ n
+pub space_number : (n : ℕ) (s : ColorSpace) → color_space_from n ≡ Ok s → color_space_number s ≡ n
 space_number n s p = go (eqb n 0) refl (eqb n 1) refl
   where
     go : (none : Bool) → eqb n 0 ≡ none → (one : Bool) → eqb n 1 ≡ one → color_space_number s ≡ n
@@ -140,11 +131,11 @@ from_figures width height c s h p = let q = passed (dimensions_fit width height)
 module _ (bytes : List ℕ) (h : Header) (whole : 14 ≤ length bytes) where
   -- what is accepted after the colour space is so
   after_color_space_accepted :
-      (c : Channels) (read : ColorSpaceRead) → channels_number c ≡ get_or bytes 12 0
+      (c : Channels) (read : Result ColorSpace Error) → channels_number c ≡ get_or bytes 12 0
       → color_space_from (get_or bytes 13 0) ≡ read → after_color_space bytes c read ≡ Ok h → Accepted bytes h
   unfolding after_color_space
-  after_color_space_accepted c (colorspace_read.Refused e) count space p = absurd (refused_is_not_ok e h p)
-  after_color_space_accepted c (colorspace_read.Ok s) count space p =
+  after_color_space_accepted c (Err e) count space p = absurd (refused_is_not_ok e h p)
+  after_color_space_accepted c (Ok s) count space p =
       let magic = passed (eqb (number_at bytes 0) magic_number) _ _ h p in
       let figures = from_figures _ _ c s h magic.1 in
       subst (Accepted bytes) figures.1
@@ -160,10 +151,10 @@ module _ (bytes : List ℕ) (h : Header) (whole : 14 ≤ length bytes) where
 
   -- what is accepted after the channels is so
   after_channels_accepted :
-      (read : ChannelsRead) → channels_from (get_or bytes 12 0) ≡ read → after_channels bytes read ≡ Ok h → Accepted bytes h
+      (read : Result Channels Error) → channels_from (get_or bytes 12 0) ≡ read → after_channels bytes read ≡ Ok h → Accepted bytes h
   unfolding after_channels
-  after_channels_accepted (channels_read.Refused e) count p = absurd (refused_is_not_ok e h p)
-  after_channels_accepted (channels_read.Ok c) count p =
+  after_channels_accepted (Err e) count p = absurd (refused_is_not_ok e h p)
+  after_channels_accepted (Ok c) count p =
       after_color_space_accepted c (color_space_from (get_or bytes 13 0)) (channels_number_lem _ c count) refl p
 
 -- a header that is read is an accepted one
@@ -177,11 +168,14 @@ header_accepted bytes h p =
 big_endian_written_back :
     (n a b c d : ℕ) → n ≡ big_endian a b c d → a < 256 → b < 256 → c < 256 → d < 256
     → big_endian_bytes n ≡ a ∷ b ∷ c ∷ d ∷ []
-unfolding unpacked
-big_endian_written_back n a b c d is ha hb hc hd =
-    let packed : n ≡ packed_of d c b a = omega arith in
-    ap big_endian_bytes packed
-    ∙ ap {B = List ℕ} (λ p. alpha p ∷ blue p ∷ green p ∷ red p ∷ []) (unpacked_packed d c b a hd hc hb ha)
+big_endian_written_back n a b c d is ha hb hc hd = be_bytes_4 (a ∷ b ∷ c ∷ d ∷ []) n refl each is
+  where
+    each : (i : ℕ) → get_or (a ∷ b ∷ c ∷ d ∷ []) i 0 < 256
+    each zero = ha
+    each (suc zero) = hb
+    each (suc (suc zero)) = hc
+    each (suc (suc (suc zero))) = hd
+    each (suc (suc (suc (suc i)))) = omega arith
 
 -- the bytes from a place on, one by one
 abbrev bytes_from : List ℕ → ℕ → ℕ → List ℕ

@@ -1,6 +1,6 @@
 -- The header: its fourteen bytes, its test with the order of its refusals, and the room that a picture may need.
 -- The order of refusals reads from the bottom up: the last definition of it makes the first test.
-use Rattle.std.specs.Prelude.{Bool, cond, ◌&&◌, List, [], ◌∷◌, ◌++◌, ℕ, ◌+◌, ◌-◌, ◌*◌, ◌/◌, ◌%◌, ◌^◌, min, ltb, leb, eqb, length, get_or}
+use Rattle.std.specs.Prelude.{Bool, cond, ◌&&◌, List, [], ◌∷◌, ◌++◌, ℕ, ◌+◌, ◌-◌, ◌*◌, ◌/◌, ◌%◌, ◌^◌, min, ltb, leb, eqb, length, get_or, Result, Ok, Err}
 use Rattle.pixel.specs.Types.{channels_number, color_space_number, channels_from, color_space_from}
 use Rattle.pixel.specs.declared.error.Error.TheVariants.{InvalidMagic, InvalidImageDimensions}
 use Rattle.pixel.specs.Refusal.{ended_early}
@@ -8,13 +8,8 @@ use Rattle.pixel.specs.declared.types.Channels.{Channels}
 use Rattle.pixel.specs.declared.types.Channels.TheVariants.{Rgb}
 use Rattle.pixel.specs.declared.types.ColorSpace.{ColorSpace}
 use Rattle.pixel.specs.declared.types.ColorSpace.TheVariants.{Srgb}
-use Rattle.pixel.specs.declared.types.ChannelsRead.{ChannelsRead}
-use Rattle.pixel.specs.declared.types.ChannelsRead.TheVariants as channels_read
-use Rattle.pixel.specs.declared.types.ColorSpaceRead.{ColorSpaceRead}
-use Rattle.pixel.specs.declared.types.ColorSpaceRead.TheVariants as colorspace_read
 use Rattle.header.specs.declared.Header.{Header}
-use Rattle.header.specs.declared.HeaderRead.{HeaderRead}
-use Rattle.header.specs.declared.HeaderRead.TheVariants.{Ok, Refused}
+use Rattle.pixel.specs.declared.error.Error.{Error}
 
 -- pixels are width x height
 abbrev pub pixel_count : Header → ℕ
@@ -45,32 +40,32 @@ header_bytes h =
     ++ (channels_number h.channels ∷ color_space_number h.colorspace ∷ [])))
 
 -- a header of these figures, or refusal 5 with its dimensions
-unfoldable pub header_from : ℕ → ℕ → Channels → ColorSpace → HeaderRead
+unfoldable pub header_from : ℕ → ℕ → Channels → ColorSpace → Result Header Error
 header_from width height channels colorspace =
     cond (dimensions_fit width height)
     (Ok (record { width = width; height = height; channels = channels; colorspace = colorspace }))
-    (Refused (InvalidImageDimensions width height))
+    (Err (InvalidImageDimensions width height))
 
 -- the 32-bit big-endian number at a place
 abbrev pub number_at : List ℕ → ℕ → ℕ
 number_at bytes at = big_endian (get_or bytes at 0) (get_or bytes (at + 1) 0) (get_or bytes (at + 2) 0) (get_or bytes (at + 3) 0)
 
 -- after the colour space: the magic is refusal 4, then the dimensions 5
-unfoldable pub after_color_space : List ℕ → Channels → ColorSpaceRead → HeaderRead
-after_color_space bytes channels (colorspace_read.Refused e) = Refused e
-after_color_space bytes channels (colorspace_read.Ok colorspace) =
+unfoldable pub after_color_space : List ℕ → Channels → Result ColorSpace Error → Result Header Error
+after_color_space bytes channels (Err e) = Err e
+after_color_space bytes channels (Ok colorspace) =
     cond (eqb (number_at bytes 0) magic_number) (header_from (number_at bytes 4) (number_at bytes 8) channels colorspace)
-    (Refused (InvalidMagic (number_at bytes 0)))
+    (Err (InvalidMagic (number_at bytes 0)))
 
 -- after the channels: the colour space is refusal 3
-unfoldable pub after_channels : List ℕ → ChannelsRead → HeaderRead
-after_channels bytes (channels_read.Refused e) = Refused e
-after_channels bytes (channels_read.Ok channels) = after_color_space bytes channels (color_space_from (get_or bytes 13 0))
+unfoldable pub after_channels : List ℕ → Result Channels Error → Result Header Error
+after_channels bytes (Err e) = Err e
+after_channels bytes (Ok channels) = after_color_space bytes channels (color_space_from (get_or bytes 13 0))
 
 -- header order: length under 14 (1), 2, 3, 4, 5
-unfoldable pub header_of : List ℕ → HeaderRead
+unfoldable pub header_of : List ℕ → Result Header Error
 header_of bytes =
-    cond (ltb (length bytes) 14) (Refused ended_early) (after_channels bytes (channels_from (get_or bytes 12 0)))
+    cond (ltb (length bytes) 14) (Err ended_early) (after_channels bytes (channels_from (get_or bytes 12 0)))
 
 -- one pixel, three channels, sRGB
 abbrev pub default_header : Header

@@ -3,16 +3,13 @@
 
 ghost use Rattle.std.specs.Prelude.{◌≡◌, ◌+◌, ◌*◌, ◌≤◌, length};
 ghost use Rattle.pixel.specs.Types.{channels_number};
-ghost use Rattle.header.specs.Header.{header_bytes, header_of, header_from, dimensions_fit as dimensions_fit_of, default_header, with_channels as with_channels_of, with_color_space, pixel_count, pixel_bytes, encoded_room, saturated, big_endian as big_endian_of, number_at as number_at_of, after_channels as after_channels_of, after_color_space as after_color_space_of};
+ghost use Rattle.header.specs.Header.{header_bytes, header_of, header_from, dimensions_fit as dimensions_fit_of, default_header, with_channels as with_channels_of, with_color_space, pixel_count, pixel_bytes, encoded_room, saturated, number_at as number_at_of};
 
 use pixel::consts::{QOI_HEADER_SIZE, QOI_MAGIC, QOI_PADDING_SIZE, QOI_PIXELS_MAX};
 use pixel::error::Error;
-use pixel::types::{Channels, ChannelsRead, ColorSpace, ColorSpaceRead};
+use pixel::types::{Channels, ColorSpace};
 
-// A header as a message starts with it.
-pub type FourteenBytes = [u8; 14];
-
-#[derive(Clone, Copy)]
+#[derive(Clone, Copy, Debug, PartialEq, Eq, Hash)]
 pub struct Header {
     pub width: u32,
     pub height: u32,
@@ -20,17 +17,11 @@ pub struct Header {
     pub colorspace: ColorSpace,
 }
 
-#[derive(Clone, Copy)]
-pub enum HeaderRead {
-    Ok(Header),
-    Refused(Error),
-}
+impl Default for Header {
+    ghost is_default = { λ header. header ≡ default_header };
 
-impl Header {
     // One pixel, three channels, sRGB.
-    pub fn default() -> Self
-        ensures { result ≡ default_header }
-    {
+    fn default() -> Self {
         Header {
             width: 1,
             height: 1,
@@ -38,14 +29,17 @@ impl Header {
             colorspace: ColorSpace::default(),
         }
     }
+}
 
+impl Header {
     // A header of 1 to 400,000,000 pixels.
+    #[tactic(auto, unfolding(crate::specs::Header::header_from))]
     pub fn try_new(
         width: u32,
         height: u32,
         channels: Channels,
         colorspace: ColorSpace,
-    ) -> HeaderRead
+    ) -> Result<Self, Error>
         ensures { result ≡ header_from width height channels colorspace }
     {
         let header = Header {
@@ -55,80 +49,65 @@ impl Header {
             colorspace,
         };
         if !header.dimensions_fit() {
-            return HeaderRead::Refused(Error::InvalidImageDimensions { width, height });
+            return Err(Error::InvalidImageDimensions { width, height });
         }
-        HeaderRead::Ok(header)
+        Ok(header)
     }
 
     // Whether there are 1 to 400,000,000 pixels.
     pub fn dimensions_fit(self) -> bool
         ensures { result ≡ dimensions_fit_of self.width self.height }
     {
-        let pixels = self.n_pixels();
-        if pixels < 1 {
-            return false;
-        }
-        pixels <= QOI_PIXELS_MAX
+        (1..=QOI_PIXELS_MAX).contains(&self.n_pixels())
     }
 
     pub fn with_channels(self, channels: Channels) -> Self
         ensures { result ≡ with_channels_of self channels }
     {
-        let colorspace = self.colorspace;
-        Header {
-            width: self.width,
-            height: self.height,
-            channels,
-            colorspace,
-        }
+        Header { channels, ..self }
     }
 
     pub fn with_colorspace(self, colorspace: ColorSpace) -> Self
         ensures { result ≡ with_color_space self colorspace }
     {
-        let channels = self.channels;
-        Header {
-            width: self.width,
-            height: self.height,
-            channels,
-            colorspace,
-        }
+        Header { colorspace, ..self }
     }
 
     // The fourteen bytes.
-    pub fn encode(self) -> FourteenBytes
+    #[tactic(auto, unfolding(crate::specs::Header::header_bytes))]
+    pub fn encode(self) -> [u8; QOI_HEADER_SIZE]
         ensures { result ≡ header_bytes self }
     {
-        let w = self.width;
-        let h = self.height;
-        let c = self.channels;
-        let s = self.colorspace;
+        let [m0, m1, m2, m3] = QOI_MAGIC.to_be_bytes();
+        let [w0, w1, w2, w3] = self.width.to_be_bytes();
+        let [h0, h1, h2, h3] = self.height.to_be_bytes();
+        let channels = self.channels.as_u8();
+        let colorspace = self.colorspace.as_u8();
         [
-            113,
-            111,
-            105,
-            102,
-            (w / 0x100_0000 % 256) as u8,
-            (w / 0x1_0000 % 256) as u8,
-            (w / 256 % 256) as u8,
-            (w % 256) as u8,
-            (h / 0x100_0000 % 256) as u8,
-            (h / 0x1_0000 % 256) as u8,
-            (h / 256 % 256) as u8,
-            (h % 256) as u8,
-            c.as_u8(),
-            s.as_u8(),
+            m0, m1, m2, m3, w0, w1, w2, w3, h0, h1, h2, h3, channels, colorspace,
         ]
     }
 
     // The header that a message starts with.
-    pub fn decode(message: &[u8]) -> HeaderRead
+    #[tactic(auto, unfolding(crate::specs::Header::header_of, crate::specs::Header::after_channels, crate::specs::Header::after_color_space))]
+    pub fn decode(message: &[u8]) -> Result<Self, Error>
         ensures { result ≡ header_of message.now }
     {
         if message.len() < QOI_HEADER_SIZE {
-            return HeaderRead::Refused(Error::UnexpectedBufferEnd { at: 0 });
+            return Err(Error::UnexpectedBufferEnd { at: 0 });
         }
-        after_channels(message, Channels::try_from(wide(message[12])))
+        let channels = Channels::try_from(u64::from(message[12]))?;
+        let colorspace = ColorSpace::try_from(u64::from(message[13]))?;
+        let magic = number_at(message, 0);
+        if magic != QOI_MAGIC {
+            return Err(Error::InvalidMagic { magic });
+        }
+        Header::try_new(
+            number_at(message, 4),
+            number_at(message, 8),
+            channels,
+            colorspace,
+        )
     }
 
     pub fn n_pixels(self) -> usize
@@ -141,48 +120,15 @@ impl Header {
     pub fn n_bytes(self) -> usize
         ensures { result ≡ pixel_bytes self }
     {
-        let c = self.channels;
-        saturating_mul(self.n_pixels(), c.as_u8() as usize)
+        self.n_pixels()
+            .saturating_mul(self.channels.as_u8() as usize)
     }
 
     // The most that the encoded picture takes, saturating.
     pub fn encode_max_len(self) -> usize
         ensures { result ≡ encoded_room self.width self.height (channels_number self.channels) }
     {
-        let c = self.channels;
-        encode_max_len(self.width, self.height, c.as_u8())
-    }
-}
-
-// What follows the channels: the colour space.
-fn after_channels(message: &[u8], read: ChannelsRead) -> HeaderRead
-    requires { 14 ≤ length message.now }
-    ensures { result ≡ after_channels_of message.now read }
-{
-    match read {
-        ChannelsRead::Refused(e) => HeaderRead::Refused(e),
-        ChannelsRead::Ok(channels) => {
-            after_color_space(message, channels, ColorSpace::try_from(wide(message[13])))
-        }
-    }
-}
-
-// What follows the colour space: the magic, then the dimensions.
-fn after_color_space(message: &[u8], channels: Channels, read: ColorSpaceRead) -> HeaderRead
-    requires { 14 ≤ length message.now }
-    ensures { result ≡ after_color_space_of message.now channels read }
-{
-    match read {
-        ColorSpaceRead::Refused(e) => HeaderRead::Refused(e),
-        ColorSpaceRead::Ok(colorspace) => {
-            let magic = number_at(message, 0);
-            if magic != QOI_MAGIC {
-                return HeaderRead::Refused(Error::InvalidMagic { magic });
-            }
-            let width = number_at(message, 4);
-            let height = number_at(message, 8);
-            Header::try_new(width, height, channels, colorspace)
-        }
+        encode_max_len(self.width, self.height, self.channels.as_u8())
     }
 }
 
@@ -191,16 +137,16 @@ fn number_at(message: &[u8], at: usize) -> u32
     requires { at + 4 ≤ length message.now }
     ensures { result ≡ number_at_of message.now at }
 {
-    big_endian(
+    u32::from_be_bytes([
         message[at],
         message[at + 1],
         message[at + 2],
         message[at + 3],
-    )
+    ])
 }
 
 // The header that a message starts with.
-pub fn decode_header(message: &[u8]) -> HeaderRead
+pub fn decode_header(message: &[u8]) -> Result<Header, Error>
     ensures { result ≡ header_of message.now }
 {
     Header::decode(message)
@@ -210,11 +156,13 @@ pub fn decode_header(message: &[u8]) -> HeaderRead
 pub fn encode_max_len(width: u32, height: u32, channels: u8) -> usize
     ensures { result ≡ encoded_room width height channels }
 {
-    let room = saturating_mul(product(width, height), channels as usize + 1);
-    saturating_add(room, QOI_HEADER_SIZE + QOI_PADDING_SIZE)
+    product(width, height)
+        .saturating_mul(channels as usize + 1)
+        .saturating_add(QOI_HEADER_SIZE + QOI_PADDING_SIZE)
 }
 
 // Width times height, which always fits.
+#[tactic(auto, using(crate::proofs::Laws::product_fits))]
 fn product(width: u32, height: u32) -> usize
     ensures { result ≡ width * height }
 {
@@ -225,35 +173,5 @@ fn product(width: u32, height: u32) -> usize
 pub fn saturating_mul(a: usize, b: usize) -> usize
     ensures { result ≡ saturated (a * b) }
 {
-    if b == 0 {
-        return 0;
-    }
-    if a <= 0xffff_ffff_ffff_ffff / b {
-        a * b
-    } else {
-        0xffff_ffff_ffff_ffff
-    }
-}
-
-// A sum that stops at 2^64-1.
-fn saturating_add(a: usize, b: usize) -> usize
-    ensures { result ≡ saturated (a + b) }
-{
-    if 0xffff_ffff_ffff_ffff - b < a {
-        return 0xffff_ffff_ffff_ffff;
-    }
-    a + b
-}
-
-// Four bytes as a 32-bit big-endian number.
-fn big_endian(a: u8, b: u8, c: u8, d: u8) -> u32
-    ensures { result ≡ big_endian_of a b c d }
-{
-    (a as u32) * 0x100_0000 + (b as u32) * 0x1_0000 + (c as u32) * 256 + d as u32
-}
-
-fn wide(byte: u8) -> u64
-    ensures { result ≡ byte }
-{
-    byte as u64
+    a.saturating_mul(b)
 }

@@ -1,5 +1,8 @@
 -- What the proofs of `read` and `read_more` share: reading, in terms of a slice's length, the byte at an offset and the
 -- rest; and what `group_below` requires.
+use Rattle.std.specs.Prelude.{Result, Ok, Err}
+use Rattle.pixel.specs.declared.error.Error.{Error}
+use Rattle.number.specs.declared.Number.{Number}
 use Prim.Native.Nat.{ℕ, zero, suc, ◌+◌, ◌-◌, ◌*◌, ◌^◌, ◌≤◌, ◌<◌}
 use mathlib.Core.Path.{◌≡◌, refl, ◌∙◌}
 use mathlib.Core.Bool.{cond}
@@ -12,10 +15,8 @@ use lib.ListN.{length, get_or, take, drop, length-drop, drop_of_length-le}
 use lib.Seq.{take_all, drop-cons}
 use Rattle.pixel.specs.Bytes.{AllBytes}
 use Rattle.pixel.specs.declared.error.Error.TheVariants.{UnexpectedBufferEnd, BadState}
-use Rattle.number.specs.declared.NumberRead.{NumberRead}
-use Rattle.number.specs.declared.NumberRead.TheVariants as read
 use Rattle.number.specs.Asked.{GroupFits}
-use Rattle.number.specs.Seven.{read_number, read_first, read_more, group_below}
+use Rattle.number.specs.Seven.{number_read, read_number, read_first, read_more, group_below}
 use Rattle.number.proofs.Laws.{Within, more_within, dropped_bytes}
 
 -- the byte at an offset of a slice, and `&bytes[start + 1..]`
@@ -34,25 +35,25 @@ all_after bytes start =
 from_there : (bytes : List ℕ) (start : ℕ) → start < length bytes → drop start bytes ≡ byte_at bytes start ∷ after bytes start
 from_there bytes start inside = drop-cons bytes start 0 inside ∙ rw (all_after bytes start, add-one start)
 
-pub number_empty : (bytes : List ℕ) (start : ℕ) → length bytes ≤ start → read_number bytes start ≡ read.Refused (UnexpectedBufferEnd start)
+pub number_empty : (bytes : List ℕ) (start : ℕ) → length bytes ≤ start → read_number bytes start ≡ Err (UnexpectedBufferEnd start)
 unfolding read_number read_first
 number_empty bytes start none = rw (drop_of_length-le bytes none)
 
 pub number_first : (bytes : List ℕ) (start : ℕ) → start < length bytes
     → read_number bytes start
-    ≡ cond (ltb (byte_at bytes start) 128) (read.Number (byte_at bytes start) 1)
+    ≡ cond (ltb (byte_at bytes start) 128) (number_read (byte_at bytes start) 1)
     (group_below (byte_at bytes start) (read_more start 8 (after bytes start)))
 unfolding read_number read_first
 number_first bytes start inside = rw (from_there bytes start inside)
 
 pub more_empty :
-    (start more : ℕ) (bytes : List ℕ) → length bytes ≡ 0 → read_more start more bytes ≡ read.Refused (UnexpectedBufferEnd start)
+    (start more : ℕ) (bytes : List ℕ) → length bytes ≡ 0 → read_more start more bytes ≡ Err (UnexpectedBufferEnd start)
 unfolding read_more
 more_empty start more [] none = refl
 more_empty start more (byte ∷ bytes) none = absurd (omega arith)
 
 pub more_last : (start more : ℕ) (bytes : List ℕ) → more ≡ 0 → (length bytes ≡ 0 → ⊥)
-    → read_more start more bytes ≡ cond (eqb (byte_at bytes 0) 1) (read.Number 1 1) (read.Refused (BadState start))
+    → read_more start more bytes ≡ cond (eqb (byte_at bytes 0) 1) (number_read 1 1) (Err (BadState start))
 unfolding read_more
 more_last start more [] last some = absurd (some refl)
 more_last start zero (byte ∷ bytes) last some = refl
@@ -60,7 +61,7 @@ more_last start (suc more) (byte ∷ bytes) last some = absurd (omega arith)
 
 pub more_first : (start more : ℕ) (bytes : List ℕ) → (more ≡ 0 → ⊥) → (length bytes ≡ 0 → ⊥)
     → read_more start more bytes
-    ≡ cond (ltb (byte_at bytes 0) 128) (cond (eqb (byte_at bytes 0) 0) (read.Refused (BadState start)) (read.Number (byte_at bytes 0) 1))
+    ≡ cond (ltb (byte_at bytes 0) 128) (cond (eqb (byte_at bytes 0) 0) (Err (BadState start)) (number_read (byte_at bytes 0) 1))
     (group_below (byte_at bytes 0) (read_more start (more - 1) (after bytes 0)))
 unfolding read_more
 more_first start more [] follow some = absurd (some refl)
@@ -69,10 +70,10 @@ more_first start (suc more) (byte ∷ bytes) follow some =
     let fewer : suc more - 1 ≡ more = omega arith in
     rw (all_after (byte ∷ bytes) 0, fewer)
 
-fits_of : (byte more : ℕ) (bytes : List ℕ) (rest : NumberRead) → 128 ≤ byte → more ≤ 8
+fits_of : (byte more : ℕ) (bytes : List ℕ) (rest : Result Number Error) → 128 ≤ byte → more ≤ 8
     → Within (2 * 128 ^ more) (suc more) bytes rest → GroupFits byte rest
-fits_of byte more bytes (read.Number value used) high le within = omega (arith, pow-le-pow_right {n = 128} (omega arith) le)
-fits_of byte more bytes (read.Refused e) high le within = tt
+fits_of byte more bytes (Ok number) high le within = omega (arith, pow-le-pow_right {n = 128} (omega arith) le)
+fits_of byte more bytes (Err e) high le within = tt
 
 -- a group can stand below what `read_more` answers of the bytes after it
 pub group_fits :

@@ -7,110 +7,95 @@ ghost use Rattle.number.specs.Asked.{GroupFits};
 
 use pixel::error::Error;
 
-#[derive(Clone, Copy)]
-pub enum NumberRead {
-    // A number, and how many bytes it took.
-    Number { value: u64, used: usize },
-    Refused(Error),
-}
-
-#[derive(Clone, Copy)]
-pub enum NumberWritten {
-    Done { used: usize },
-    Refused(Error),
+// A number that was read, and how many bytes it took.
+#[derive(Clone, Copy, Debug, PartialEq, Eq, Hash)]
+pub struct Number {
+    pub value: u64,
+    pub used: usize,
 }
 
 // The number that starts at an offset of a part. A refusal carries that offset, whichever byte fails.
-pub fn read(bytes: &[u8], start: usize) -> NumberRead
+pub fn read(bytes: &[u8], start: usize) -> Result<Number, Error>
     ensures { result ≡ read_number bytes.now start }
 {
     if bytes.len() <= start {
-        return NumberRead::Refused(Error::UnexpectedBufferEnd { at: start });
+        return Err(Error::UnexpectedBufferEnd { at: start });
     }
     let byte = bytes[start];
     if byte < 128 {
-        return NumberRead::Number {
-            value: byte as u64,
+        return Ok(Number {
+            value: u64::from(byte),
             used: 1,
-        };
+        });
     }
-    let second = start + 1;
-    group_below(byte, read_more(start, 8, &bytes[second..]))
+    group_below(byte, read_more(start, 8, &bytes[start + 1..]))
 }
 
 // What a part says where a group with the top bit set stands before it, and `more` and one bytes may follow; the number
 // starts at `start`.
-fn read_more(start: usize, more: usize, bytes: &[u8]) -> NumberRead
+fn read_more(start: usize, more: usize, bytes: &[u8]) -> Result<Number, Error>
     requires { more ≤ 8 }
     ensures { result ≡ read_more_of start more bytes.now }
 {
-    if bytes.len() == 0 {
-        return NumberRead::Refused(Error::UnexpectedBufferEnd { at: start });
-    }
-    let byte = bytes[0];
+    let [byte, after @ ..] = bytes else {
+        return Err(Error::UnexpectedBufferEnd { at: start });
+    };
     if more == 0 {
-        if byte == 1 {
-            return NumberRead::Number { value: 1, used: 1 };
+        if *byte == 1 {
+            return Ok(Number { value: 1, used: 1 });
         }
-        return NumberRead::Refused(Error::BadState { at: start });
+        return Err(Error::BadState { at: start });
     }
-    if byte < 128 {
-        if byte == 0 {
-            return NumberRead::Refused(Error::BadState { at: start });
+    if *byte < 128 {
+        if *byte == 0 {
+            return Err(Error::BadState { at: start });
         }
-        return NumberRead::Number {
-            value: byte as u64,
+        return Ok(Number {
+            value: u64::from(*byte),
             used: 1,
-        };
+        });
     }
-    group_below(byte, read_more(start, more - 1, &bytes[1..]))
+    group_below(*byte, read_more(start, more - 1, after))
 }
 
 // A group with the top bit set before what the bytes after it say.
-fn group_below(byte: u8, after: NumberRead) -> NumberRead
+#[tactic(auto, unfolding(crate::specs::Seven::group_below))]
+fn group_below(byte: u8, after: Result<Number, Error>) -> Result<Number, Error>
     requires { GroupFits byte after }
     ensures { result ≡ group_below_of byte after }
 {
-    match after {
-        NumberRead::Number { value, used } => NumberRead::Number {
-            value: (byte - 128) as u64 + 128 * value,
-            used: used + 1,
-        },
-        NumberRead::Refused(e) => NumberRead::Refused(e),
-    }
+    let Number { value, used } = after?;
+    Ok(Number {
+        value: u64::from(byte - 128) + 128 * value,
+        used: used + 1,
+    })
 }
 
 // How many bytes a number takes: 1 to 10.
+#[tactic(auto, using(crate::proofs::Laws::length_by_bits))]
 pub fn len(value: u64) -> usize
     ensures { result ≡ length (seven_bits value) }
 {
-    let mut above = value;
-    let mut used: usize = 1;
-    while 128 <= above {
-        above = above / 128;
-        used += 1;
-    }
-    used
+    value.max(1).ilog2() as usize / 7 + 1
 }
 
 // Writes a number at the front of a part; bytes after it stay, and without room all do.
-pub fn write(value: u64, out: &mut [u8]) -> NumberWritten
+pub fn write(value: u64, out: &mut [u8]) -> Result<usize, Error>
     ensures { (result ≡ writing_number value out.old) × (out.new ≡ written_number value out.old) }
 {
     let required = len(value);
     if out.len() < required {
-        return NumberWritten::Refused(Error::OutputBufferTooSmall {
+        return Err(Error::OutputBufferTooSmall {
             size: out.len(),
             required,
         });
     }
+    let last = required - 1;
     let mut left = value;
-    let mut at: usize = 0;
-    while 128 <= left {
+    for at in 0..last {
         out[at] = (128 + left % 128) as u8;
-        left = left / 128;
-        at += 1;
+        left /= 128;
     }
-    out[at] = left as u8;
-    NumberWritten::Done { used: required }
+    out[last] = left as u8;
+    Ok(required)
 }

@@ -1,10 +1,9 @@
 -- A refusal in words: the Rust's own for the eight that it has, and in the same style for 9 to 12, 19 to 21 and for a
 -- number that is no refusal. 1 and 9 with an offset are those of a record.
-use Rattle.std.specs.Prelude.{cond, List, [], ◌∷◌, ℕ, ◌/◌, ◌%◌, eqb, ltb, length, get_or}
+use Rattle.std.specs.Prelude.{cond, List, [], ◌∷◌, ℕ, ◌/◌, ◌%◌, eqb, ltb, length, get_or, Result, Ok, Err}
 use Rattle.text.specs.Text.{Part, say, figure, said}
-use Rattle.pixel.specs.declared.error.Worded.{Worded}
-use Rattle.pixel.specs.declared.error.Worded.TheVariants as worded
 use Rattle.pixel.specs.declared.error.Error.TheVariants.{OutputBufferTooSmall}
+use Rattle.pixel.specs.declared.error.Error.{Error}
 
 -- the magic expected is "qoif" as a number; of the one found the four bytes are told, the high one first
 abbrev pub magic_parts : ℕ → List Part
@@ -51,6 +50,6 @@ abbrev pub words_of : ℕ → List ℕ → List ℕ
 words_of number figures = said (sentence number (get_or figures 0 0) (get_or figures 1 0) (get_or figures 2 0))
 
 -- the answer for an output with this room: the length of the words, or 7
-unfoldable pub worded_in : List ℕ → ℕ → Worded
+unfoldable pub worded_in : List ℕ → ℕ → Result ℕ Error
 worded_in words room =
-    cond (ltb room (length words)) (worded.Refused (OutputBufferTooSmall room (length words))) (worded.Done (length words))
+    cond (ltb room (length words)) (Err (OutputBufferTooSmall room (length words))) (Ok (length words))

@@ -15,7 +15,7 @@ pub const QOI_HEADER_SIZE: usize = 14;
 
 pub const QOI_PADDING: [u8; 8] = [0, 0, 0, 0, 0, 0, 0, 1];
 
-pub const QOI_PADDING_SIZE: usize = 8;
+pub const QOI_PADDING_SIZE: usize = QOI_PADDING.len();
 
 // "qoif", read as a big-endian number.
 pub const QOI_MAGIC: u32 = 0x716f_6966;

@@ -1,16 +1,17 @@
 // The refusals of document 01, and of document 02 12 (Q-7) and 19 to 21 (Q-13): number, figures and words of each.
-ghost use Rattle.std.specs.Prelude.{◌≡◌, length};
+ghost use Rattle.std.specs.Prelude.{◌≡◌, length, Some};
 ghost use Rattle.text.specs.Text.{text_of as bytes_of_text, put_over};
 ghost use Rattle.pixel.specs.Refusal.{number_of, figures_of};
 ghost use Rattle.pixel.specs.Words.{words_of, worded_in};
 
 use crate::words;
+use std::{fmt, str};
 use text::Text;
 
 // The figures of an answer, zeros after them.
 pub type FourFigures = [u64; 4];
 
-#[derive(Clone, Copy)]
+#[derive(Clone, Copy, Debug, PartialEq, Eq, Hash)]
 pub enum Error {
     // Input ended before what was to be read; in a record, within the field at this offset. Elsewhere it is 0.
     UnexpectedBufferEnd {
@@ -79,34 +80,21 @@ impl Error {
         ensures { result ≡ number_of self }
     {
         match self {
-            Error::UnexpectedBufferEnd { at: _ } => 1,
-            Error::InvalidChannels { channels: _ } => 2,
-            Error::InvalidColorSpace { colorspace: _ } => 3,
-            Error::InvalidMagic { magic: _ } => 4,
-            Error::InvalidImageDimensions {
-                width: _,
-                height: _,
-            } => 5,
-            Error::InvalidImageLength {
-                size: _,
-                width: _,
-                height: _,
-            } => 6,
-            Error::OutputBufferTooSmall {
-                size: _,
-                required: _,
-            } => 7,
+            Error::UnexpectedBufferEnd { .. } => 1,
+            Error::InvalidChannels { .. } => 2,
+            Error::InvalidColorSpace { .. } => 3,
+            Error::InvalidMagic { .. } => 4,
+            Error::InvalidImageDimensions { .. } => 5,
+            Error::InvalidImageLength { .. } => 6,
+            Error::OutputBufferTooSmall { .. } => 7,
             Error::InvalidPadding => 8,
-            Error::BadState { at: _ } => 9,
+            Error::BadState { .. } => 9,
             Error::RunPastImage => 10,
             Error::BytesAfterMarker => 11,
-            Error::OtherMessage { number: _ } => 12,
-            Error::InvalidHour { hour: _ } => 19,
-            Error::InvalidCellCount {
-                pixels: _,
-                cells: _,
-            } => 20,
-            Error::TotalTooLarge { cell: _ } => 21,
+            Error::OtherMessage { .. } => 12,
+            Error::InvalidHour { .. } => 19,
+            Error::InvalidCellCount { .. } => 20,
+            Error::TotalTooLarge { .. } => 21,
         }
     }
 
@@ -116,29 +104,30 @@ impl Error {
     {
         match self {
             Error::UnexpectedBufferEnd { at } => [at as u64, 0, 0, 0],
-            Error::InvalidChannels { channels } => [channels as u64, 0, 0, 0],
-            Error::InvalidColorSpace { colorspace } => [colorspace as u64, 0, 0, 0],
-            Error::InvalidMagic { magic } => [magic as u64, 0, 0, 0],
-            Error::InvalidImageDimensions { width, height } => [width as u64, height as u64, 0, 0],
+            Error::InvalidChannels { channels } => [u64::from(channels), 0, 0, 0],
+            Error::InvalidColorSpace { colorspace } => [u64::from(colorspace), 0, 0, 0],
+            Error::InvalidMagic { magic } => [u64::from(magic), 0, 0, 0],
+            Error::InvalidImageDimensions { width, height } => {
+                [u64::from(width), u64::from(height), 0, 0]
+            }
             Error::InvalidImageLength {
                 size,
                 width,
                 height,
-            } => [size as u64, width as u64, height as u64, 0],
+            } => [size as u64, u64::from(width), u64::from(height), 0],
             Error::OutputBufferTooSmall { size, required } => [size as u64, required as u64, 0, 0],
-            Error::InvalidPadding => [0, 0, 0, 0],
             Error::BadState { at } => [at as u64, 0, 0, 0],
-            Error::RunPastImage => [0, 0, 0, 0],
-            Error::BytesAfterMarker => [0, 0, 0, 0],
             Error::OtherMessage { number } => [number, 0, 0, 0],
             Error::InvalidHour { hour } => [hour, 0, 0, 0],
             Error::InvalidCellCount { pixels, cells } => [pixels as u64, cells as u64, 0, 0],
             Error::TotalTooLarge { cell } => [cell as u64, 0, 0, 0],
+            Error::InvalidPadding | Error::RunPastImage | Error::BytesAfterMarker => [0; 4],
         }
     }
 
-    // Writes the refusal in words at the front of an output; nothing where there is no room for them.
-    pub fn text(self, out: &mut [u8]) -> Worded
+    // Writes the refusal in words at the front of an output, and answers how many bytes they are; nothing where there is
+    // no room for them, which is 7.
+    pub fn text(self, out: &mut [u8]) -> Result<usize, Error>
         ensures value { result ≡ worded_in (words_of (number_of self) (figures_of self)) (length out.old) }
         ensures out_after { out.new ≡ put_over (words_of (number_of self) (figures_of self)) out.old }
     {
@@ -146,15 +135,22 @@ impl Error {
     }
 }
 
-// How many bytes of words were written, or 7.
-#[derive(Clone, Copy)]
-pub enum Worded {
-    Done(usize),
-    Refused(Error),
+impl std::error::Error for Error {}
+
+impl fmt::Display for Error {
+    ghost output = { λ error. Some (words_of (number_of error) (figures_of error)) };
+
+    // The words that `text` writes.
+    fn fmt<W: fmt::Write>(&self, f: &mut fmt::Formatter<W>) -> fmt::Result {
+        let mut bytes = [0; 160];
+        let size = self.text(&mut bytes).unwrap();
+        let words = str::from_utf8(&bytes[..size]).unwrap();
+        f.write_str(words)
+    }
 }
 
 // Writes the words of a number and its figures, also of a number that is no refusal.
-pub fn text_of(number: u64, figures: FourFigures, out: &mut [u8]) -> Worded
+pub fn text_of(number: u64, figures: FourFigures, out: &mut [u8]) -> Result<usize, Error>
     ensures value { result ≡ worded_in (words_of number figures) (length out.old) }
     ensures out_after { out.new ≡ put_over (words_of number figures) out.old }
 {
@@ -162,14 +158,15 @@ pub fn text_of(number: u64, figures: FourFigures, out: &mut [u8]) -> Worded
 }
 
 // Puts a text at the front of an output; nothing where there is no room for it.
-pub fn put_text(text: Text, out: &mut [u8]) -> Worded
+#[tactic(auto, unfolding(crate::specs::Words::worded_in))]
+pub fn put_text(text: Text, out: &mut [u8]) -> Result<usize, Error>
     ensures value { result ≡ worded_in (bytes_of_text text) (length out.old) }
     ensures out_after { out.new ≡ put_over (bytes_of_text text) out.old }
 {
     let size = out.len();
     let required = text.put(out);
     if size < required {
-        return Worded::Refused(Error::OutputBufferTooSmall { size, required });
+        return Err(Error::OutputBufferTooSmall { size, required });
     }
-    Worded::Done(required)
+    Ok(required)
 }

@@ -11,7 +11,7 @@ pub mod types;
 mod words;
 
 // Red, green, blue, alpha. Where pixels have three channels the alpha is 255.
-#[derive(Clone, Copy)]
+#[derive(Clone, Copy, Debug, PartialEq, Eq, Hash)]
 pub struct Pixel {
     pub rgba: [u8; 4],
 }
@@ -66,48 +66,37 @@ impl Pixel {
     pub fn with_a(self, a: u8) -> Self
         ensures { result ≡ with_alpha self a }
     {
-        Pixel {
-            rgba: [self.rgba[0], self.rgba[1], self.rgba[2], a],
-        }
+        let [r, g, b, _] = self.rgba;
+        Pixel::new(r, g, b, a)
     }
 
     // The slot of the colour, with this pixel's own alpha.
+    #[tactic(auto, unfolding(crate::specs::Colour::slot_of))]
     pub fn hash_index(self) -> u8
         ensures { result ≡ slot_of self }
     {
-        slot(self.rgba[0], self.rgba[1], self.rgba[2], self.rgba[3])
+        let [r, g, b, a] = self.rgba.map(u32::from);
+        ((3 * r + 5 * g + 7 * b + 11 * a) % 64) as u8
     }
-}
-
-// The slot formula on four channels.
-fn slot(r: u8, g: u8, b: u8, a: u8) -> u8
-    ensures { result ≡ (3 * r + 5 * g + 7 * b + 11 * a) % 64 }
-{
-    ((3 * (r as u32) + 5 * (g as u32) + 7 * (b as u32) + 11 * (a as u32)) % 64) as u8
 }
 
 // The sum of two channels modulo 256.
 pub fn wrapped_sum(a: u8, b: u8) -> u8
     ensures { result ≡ wrapped_sum_of a b }
 {
-    ((a as u32 + b as u32) % 256) as u8
+    a.wrapping_add(b)
 }
 
 // The difference of two channels modulo 256.
 pub fn wrapped_difference(a: u8, b: u8) -> u8
     ensures { result ≡ wrapped_difference_of a b }
 {
-    ((a as u32 + 256 - b as u32) % 256) as u8
+    a.wrapping_sub(b)
 }
 
 // A wrapped difference as a number from -128 to 127.
 pub fn signed(x: u8) -> i8
     ensures { result ≡ signed_of x }
 {
-    if x < 128 {
-        x as i8
-    } else {
-        let y = (255 - x) as i8;
-        !y
-    }
+    x.cast_signed()
 }

@@ -1,140 +1,129 @@
 // Channel counts and colour spaces, and the numbers that stand for them in a header.
-ghost use Rattle.std.specs.Prelude.{◌≡◌, not, min};
+ghost use Rattle.std.specs.Prelude.{◌≡◌, not};
+ghost use Rattle.pixel.specs.declared.types.Channels.TheVariants.{Rgb};
+ghost use Rattle.pixel.specs.declared.types.ColorSpace.TheVariants.{Srgb};
 ghost use Rattle.pixel.specs.Types.{channels_number, color_space_number, channels_from, color_space_from, is_rgb as is_rgb_of, is_srgb as is_srgb_of};
 
 use crate::error::Error;
 
-#[derive(Clone, Copy)]
+#[derive(Clone, Copy, Debug, PartialEq, Eq, Hash, PartialOrd, Ord)]
 pub enum Channels {
-    Rgb,
-    Rgba,
+    Rgb = 3,
+    Rgba = 4,
 }
 
-#[derive(Clone, Copy)]
+#[derive(Clone, Copy, Debug, PartialEq, Eq, Hash, PartialOrd, Ord)]
 pub enum ColorSpace {
     // sRGB with linear alpha.
-    Srgb,
+    Srgb = 0,
     // All channels linear.
-    Linear,
+    Linear = 1,
 }
 
-#[derive(Clone, Copy)]
-pub enum ChannelsRead {
-    Ok(Channels),
-    Refused(Error),
+impl Default for Channels {
+    ghost is_default = { λ channels. channels ≡ Rgb };
+
+    fn default() -> Self {
+        Channels::Rgb
+    }
 }
 
-#[derive(Clone, Copy)]
-pub enum ColorSpaceRead {
-    Ok(ColorSpace),
-    Refused(Error),
+impl TryFrom<u64> for Channels {
+    type Error = Error;
+
+    ghost try_from_gives = { λ number read. read ≡ channels_from number };
+
+    // 3 and 4 alone are channel counts; the refusal carries at most 255.
+    fn try_from(channels: u64) -> Result<Self, Error> {
+        match channels {
+            3 => Ok(Channels::Rgb),
+            4 => Ok(Channels::Rgba),
+            _ => Err(Error::InvalidChannels {
+                channels: channels.min(255) as u8,
+            }),
+        }
+    }
 }
 
-// A number as the byte that a refusal carries: 255 for all above.
-fn capped(n: u64) -> u8
-    ensures { result ≡ min n 255 }
-{
-    if n < 256 { n as u8 } else { 255 }
+impl From<Channels> for u8 {
+    ghost from_gives = { λ channels number. number ≡ channels_number channels };
+
+    fn from(channels: Channels) -> u8 {
+        channels.as_u8()
+    }
 }
 
 impl Channels {
-    pub fn default() -> Self
-        ensures { result ≡ Channels.Rgb }
-    {
-        Channels::Rgb
-    }
-
     pub fn is_rgb(self) -> bool
         ensures { result ≡ is_rgb_of self }
     {
-        match self {
-            Channels::Rgb => true,
-            Channels::Rgba => false,
-        }
+        matches!(self, Channels::Rgb)
     }
 
     pub fn is_rgba(self) -> bool
         ensures { result ≡ not (is_rgb_of self) }
     {
-        match self {
-            Channels::Rgb => false,
-            Channels::Rgba => true,
-        }
+        matches!(self, Channels::Rgba)
     }
 
     // 3 or 4.
     pub fn as_u8(self) -> u8
         ensures { result ≡ channels_number self }
     {
-        match self {
-            Channels::Rgb => 3,
-            Channels::Rgba => 4,
+        self as u8
+    }
+}
+
+impl Default for ColorSpace {
+    ghost is_default = { λ space. space ≡ Srgb };
+
+    fn default() -> Self {
+        ColorSpace::Srgb
+    }
+}
+
+impl TryFrom<u64> for ColorSpace {
+    type Error = Error;
+
+    ghost try_from_gives = { λ number read. read ≡ color_space_from number };
+
+    // 0 and 1 alone are colour spaces; the refusal carries at most 255.
+    fn try_from(colorspace: u64) -> Result<Self, Error> {
+        match colorspace {
+            0 => Ok(ColorSpace::Srgb),
+            1 => Ok(ColorSpace::Linear),
+            _ => Err(Error::InvalidColorSpace {
+                colorspace: colorspace.min(255) as u8,
+            }),
         }
     }
+}
 
-    // 3 and 4 alone are channel counts; the refusal carries at most 255.
-    pub fn try_from(channels: u64) -> ChannelsRead
-        ensures { result ≡ channels_from channels }
-    {
-        if channels == 3 {
-            return ChannelsRead::Ok(Channels::Rgb);
-        }
-        if channels == 4 {
-            return ChannelsRead::Ok(Channels::Rgba);
-        }
-        ChannelsRead::Refused(Error::InvalidChannels {
-            channels: capped(channels),
-        })
+impl From<ColorSpace> for u8 {
+    ghost from_gives = { λ space number. number ≡ color_space_number space };
+
+    fn from(space: ColorSpace) -> u8 {
+        space.as_u8()
     }
 }
 
 impl ColorSpace {
-    pub fn default() -> Self
-        ensures { result ≡ ColorSpace.Srgb }
-    {
-        ColorSpace::Srgb
-    }
-
     pub fn is_srgb(self) -> bool
         ensures { result ≡ is_srgb_of self }
     {
-        match self {
-            ColorSpace::Srgb => true,
-            ColorSpace::Linear => false,
-        }
+        matches!(self, ColorSpace::Srgb)
     }
 
     pub fn is_linear(self) -> bool
         ensures { result ≡ not (is_srgb_of self) }
     {
-        match self {
-            ColorSpace::Srgb => false,
-            ColorSpace::Linear => true,
-        }
+        matches!(self, ColorSpace::Linear)
     }
 
     // 0 or 1.
     pub fn as_u8(self) -> u8
         ensures { result ≡ color_space_number self }
     {
-        match self {
-            ColorSpace::Srgb => 0,
-            ColorSpace::Linear => 1,
-        }
-    }
-
-    // 0 and 1 alone are colour spaces; the refusal carries at most 255.
-    pub fn try_from(colorspace: u64) -> ColorSpaceRead
-        ensures { result ≡ color_space_from colorspace }
-    {
-        if colorspace == 0 {
-            return ColorSpaceRead::Ok(ColorSpace::Srgb);
-        }
-        if colorspace == 1 {
-            return ColorSpaceRead::Ok(ColorSpace::Linear);
-        }
-        ColorSpaceRead::Refused(Error::InvalidColorSpace {
-            colorspace: capped(colorspace),
-        })
+        self as u8
     }
 }

@@ -10,69 +10,41 @@ pub fn of(number: u64, a: u64, b: u64, c: u64) -> Text
     ensures { text_of result ≡ said (sentence number a b c) }
 {
     let text = Text::empty();
-    if number == 1 {
-        return end(a);
-    }
-    if number == 2 {
-        return text.figure(b"invalid number of channels: ", a);
-    }
-    if number == 3 {
-        return text
+    match number {
+        1 => end(a),
+        2 => text.figure(b"invalid number of channels: ", a),
+        3 => text
             .figure(b"invalid color space: ", a)
-            .words(b" (expected 0 or 1)");
-    }
-    if number == 4 {
-        return magic(a);
-    }
-    if number == 5 {
-        return text
+            .words(b" (expected 0 or 1)"),
+        4 => magic(a),
+        5 => text
             .figure(b"invalid image dimensions: ", a)
-            .figure(b"x", b);
-    }
-    if number == 6 {
-        return text
+            .figure(b"x", b),
+        6 => text
             .figure(b"invalid image length: ", a)
             .figure(b" bytes for ", b)
-            .figure(b"x", c);
-    }
-    if number == 7 {
-        return text
+            .figure(b"x", c),
+        7 => text
             .figure(b"output buffer size too small: ", a)
             .figure(b" (required: ", b)
-            .words(b")");
-    }
-    if number == 8 {
-        return text.words(b"invalid padding (stream end marker mismatch)");
-    }
-    if number == 9 {
-        return bad(a);
-    }
-    if number == 10 {
-        return text.words(b"invalid run (longer than the pixels left)");
-    }
-    if number == 11 {
-        return text.words(b"invalid length (bytes after the stream end marker)");
-    }
-    if number == 12 {
-        return text.figure(b"record of another message: ", a);
-    }
-    if number == 19 {
-        return text
+            .words(b")"),
+        8 => text.words(b"invalid padding (stream end marker mismatch)"),
+        9 => bad(a),
+        10 => text.words(b"invalid run (longer than the pixels left)"),
+        11 => text.words(b"invalid length (bytes after the stream end marker)"),
+        12 => text.figure(b"record of another message: ", a),
+        19 => text
             .figure(b"invalid hour: ", a)
-            .words(b" (expected 0 to 743)");
-    }
-    if number == 20 {
-        return text
+            .words(b" (expected 0 to 743)"),
+        20 => text
             .figure(b"invalid number of cells: ", a)
             .figure(b" pixels for ", b)
-            .words(b" cells");
-    }
-    if number == 21 {
-        return text
+            .words(b" cells"),
+        21 => text
             .figure(b"total too large: cell ", a)
-            .words(b" would pass 18446744073709551615");
+            .words(b" would pass 18446744073709551615"),
+        _ => text.figure(b"unknown refusal: ", number),
     }
-    text.figure(b"unknown refusal: ", number)
 }
 
 // The sentence of an end that comes early, in a record at an offset.
@@ -102,12 +74,14 @@ fn bad(offset: u64) -> Text
 fn magic(found: u64) -> Text
     ensures { text_of result ≡ said (magic_parts found) }
 {
-    let text = Text::empty();
-    let first = text.figure(
-        b"invalid magic: expected 1903126886, got [",
-        found / 16777216 % 256,
-    );
-    let second = first.figure(b", ", found / 65536 % 256);
-    let third = second.figure(b", ", found / 256 % 256);
-    third.figure(b", ", found % 256).words(b"]")
+    let [.., first, second, third, fourth] = found.to_be_bytes();
+    Text::empty()
+        .figure(
+            b"invalid magic: expected 1903126886, got [",
+            u64::from(first),
+        )
+        .figure(b", ", u64::from(second))
+        .figure(b", ", u64::from(third))
+        .figure(b", ", u64::from(fourth))
+        .words(b"]")
 }

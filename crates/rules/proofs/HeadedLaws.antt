@@ -1,6 +1,7 @@
 -- Laws of a picture's header: what it is like where it is accepted, and that an encode under it tests nothing more
 -- than the room.
 -- Assumes nothing.
+use Rattle.std.specs.Prelude.{Result, Ok, Err}
 use mathlib.Core.Path.{◌≡◌, refl}
 use mathlib.Core.Bool.{Bool, true, false, cond}
 use mathlib.Core.List.{List}
@@ -12,23 +13,21 @@ use lib.Dec.{T, eqb}
 use lib.ListN.{length}
 use Rattle.pixel.specs.declared.error.Error.{Error}
 use Rattle.pixel.specs.declared.error.Error.TheVariants.{InvalidImageDimensions, InvalidImageLength}
-use Rattle.pixel.specs.declared.types.ChannelsRead.{ChannelsRead}
-use Rattle.pixel.specs.declared.types.ChannelsRead.TheVariants as channels_read
 use Rattle.pixel.specs.Types.{channels_number, channels_from}
 use Rattle.header.specs.declared.Header.{Header}
-use Rattle.header.specs.declared.HeaderRead.TheVariants.{Ok, Refused}
 use Rattle.header.specs.Header.{pixel_count, dimensions_fit, header_from, default_header, with_channels}
 use Rattle.header.proofs.Laws.{is_true, channels_number_lem}
 use Rattle.rules.specs.Encode.{PictureOf, after_length, after_dimensions, picture_header, encoding_into, encoding_under}
+use Rattle.pixel.specs.declared.types.Channels.{Channels}
 
 -- a header that a picture of these dimensions gets
 pub record Headed (picture : List ℕ) (width height : ℕ) (header : Header) : Type 0 where
   pub width_is : header.width ≡ width
   pub height_is : header.height ≡ height
-  pub channels_are : channels_from (length picture / (width * height)) ≡ channels_read.Ok header.channels
+  pub channels_are : channels_from (length picture / (width * height)) ≡ Ok header.channels
   pub picture_is : PictureOf header picture
 
-refused_is_none : {e : Error} {h : Header} → Refused e ≡ Ok h → ⊥
+refused_is_none : {e : Error} {h : Header} → Err e ≡ Ok h → ⊥
 refused_is_none p = let z : ◌≡◌ {A = ℕ} 0 1 = cc in omega arith
 
 module _ (picture : List ℕ) (width height : ℕ) where
@@ -42,10 +41,10 @@ module _ (picture : List ℕ) (width height : ℕ) where
 
   length_headed :
       T (dimensions_fit width height) → length picture % (width * height) ≡ 0
-      → (count : ChannelsRead) → channels_from quotient ≡ count → (header : Header) → after_length plain count ≡ Ok header → Headed picture width height header
+      → (count : Result Channels Error) → channels_from quotient ≡ count → (header : Header) → after_length plain count ≡ Ok header → Headed picture width height header
   unfolding after_length
-  length_headed fit even (channels_read.Refused e) is header p = absurd (refused_is_none p)
-  length_headed fit even (channels_read.Ok c) is header p =
+  length_headed fit even (Err e) is header p = absurd (refused_is_none p)
+  length_headed fit even (Ok c) is header p =
       let made : with_channels plain c ≡ header = cc in
       rw (← made)
       (record {
@@ -67,14 +66,14 @@ module _ (picture : List ℕ) (width height : ℕ) where
     where
       even :
           T (dimensions_fit width height) → (b : Bool) → eqb (length picture % (width * height)) 0 ≡ b
-          → cond b (after_length plain (channels_from quotient)) (Refused (InvalidImageLength (length picture) width height)) ≡ Ok header
+          → cond b (after_length plain (channels_from quotient)) (Err (InvalidImageLength (length picture) width height)) ≡ Ok header
           → Headed picture width height header
       even fit true t p = length_headed fit (eqb-true _ _ t) (channels_from quotient) refl header p
       even fit false t p = absurd (refused_is_none p)
 
       go :
           (b : Bool) → dimensions_fit width height ≡ b
-          → after_dimensions picture (cond b (Ok plain) (Refused (InvalidImageDimensions width height))) ≡ Ok header
+          → after_dimensions picture (cond b (Ok plain) (Err (InvalidImageDimensions width height))) ≡ Ok header
           → Headed picture width height header
       go true t p = even (rw t tt) (eqb (length picture % (width * height)) 0) refl p
       go false t p = absurd (refused_is_none p)

@@ -1,6 +1,7 @@
 -- Laws of a record that is accepted: it is written again as the same bytes, its state is well formed and has the number
 -- expected, and it has at most 300 bytes.
 -- Assumes nothing.
+use Rattle.std.specs.Prelude.{Result, Ok, Err}
 use mathlib.Core.Path.{◌≡◌, refl, sym, ◌∙◌, ap, ap₂}
 use mathlib.Core.Bool.{Bool, true, false, cond}
 use mathlib.Core.List.{List, [], ◌∷◌, ◌++◌, append_assoc, append-nil}
@@ -11,22 +12,18 @@ use lib.Dec.{T, ltb, eqb}
 use lib.ListN.{length, take, drop, length-take, length-drop, take-append-drop, drop_of_length-le}
 use lib.Seq.{drop-drop}
 use Rattle.pixel.specs.declared.error.Error.{Error}
-use Rattle.pixel.specs.declared.types.ChannelsRead.{ChannelsRead}
-use Rattle.pixel.specs.declared.types.ChannelsRead.TheVariants as channels_read
 use Rattle.pixel.specs.Bytes.{AllBytes, pixel_from, pixels_from}
 use Rattle.pixel.specs.Types.{channels_from}
-use Rattle.number.specs.declared.NumberRead.{NumberRead}
-use Rattle.number.specs.declared.NumberRead.TheVariants as number_read
+use Rattle.number.specs.declared.Number.{Number}
 use Rattle.number.specs.Seven.{seven_bits, read_number}
 use Rattle.header.specs.declared.Header.{Header}
-use Rattle.header.specs.declared.HeaderRead.{HeaderRead}
-use Rattle.header.specs.declared.HeaderRead.TheVariants as header_read
 use Rattle.header.specs.Header.{header_bytes, header_of}
 use Rattle.number.proofs.Laws.{read_written_back}
 use Rattle.header.proofs.Laws.{channels_number_lem, header_written_back}
 use Rattle.rules.specs.Step.{State, well_formed, Started, started, not_started}
 use Rattle.rules.specs.Record.{pixels_bytes, record_bytes, after_number, accept_number, accept_state, read_slots, read_positions, read_wanted, read_record}
 use Rattle.rules.proofs.RecordLaws.{refused_is_no_start, sized}
+use Rattle.pixel.specs.declared.types.Channels.{Channels}
 
 -- pixels of four bytes each are written back as those bytes, whatever follows
 pixels_back : (n : ℕ) (front rest : List ℕ) → length front ≡ n * 4 → pixels_bytes (pixels_from n 4 (front ++ rest)) ≡ front
@@ -86,13 +83,13 @@ module _ (expected : ℕ) (s : State) where
 
   -- a number that is read is written back before what follows it
   number_back :
-      (bytes : List ℕ) (start : ℕ) → AllBytes bytes → (read : NumberRead) → read_number bytes start ≡ read
+      (bytes : List ℕ) (start : ℕ) → AllBytes bytes → (read : Result Number Error) → read_number bytes start ≡ read
       → (next : ℕ → ℕ → Started) → after_number start read next ≡ started s
       → (value : ℕ) × (end : ℕ) × (seven_bits value ++ drop end bytes ≡ drop start bytes) × (next value end ≡ started s)
   unfolding after_number
-  number_back bytes start are (number_read.Refused e) is next p = absurd (refused_is_no_start p)
-  number_back bytes start are (number_read.Number value used) is next p =
-      (value, start + used, read_written_back bytes start value used are is, p)
+  number_back bytes start are (Err e) is next p = absurd (refused_is_no_start p)
+  number_back bytes start are (Ok number) is next p =
+      (number.value, start + number.used, read_written_back bytes start number.value number.used are is, p)
 
   -- after the positions: the current pixel, the slots and the number
   slots_written_back :
@@ -127,22 +124,22 @@ module _ (expected : ℕ) (s : State) where
   -- after wanted: the positions are written back
   positions_written_back :
       (header : Header) (wanted : ℕ) (bytes : List ℕ) (start : ℕ) → AllBytes bytes
-      → (read : ChannelsRead) → channels_from wanted ≡ read → read_positions expected header read bytes start ≡ started s
+      → (read : Result Channels Error) → channels_from wanted ≡ read → read_positions expected header read bytes start ≡ started s
       → Again (header_bytes header ++ (seven_bits wanted ++ drop start bytes))
   unfolding read_positions
-  positions_written_back header wanted bytes start are (channels_read.Refused e) is p = absurd (refused_is_no_start p)
-  positions_written_back header wanted bytes start are (channels_read.Ok channels) is p =
+  positions_written_back header wanted bytes start are (Err e) is p = absurd (refused_is_no_start p)
+  positions_written_back header wanted bytes start are (Ok channels) is p =
       let (at, next, at_back, q) = number_back bytes start are (read_number bytes start) refl _ p in
       let (pixel, last, pixel-back, r) = number_back bytes next are (read_number bytes next) refl _ q in
       rw (← at_back, ← pixel-back, ← channels_number_lem wanted channels is) (slots_written_back header _ at pixel bytes last are r)
 
   -- after the header: wanted is written back
   wanted_written_back :
-      (bytes : List ℕ) → AllBytes bytes → (read : HeaderRead) → header_of bytes ≡ read
+      (bytes : List ℕ) → AllBytes bytes → (read : Result Header Error) → header_of bytes ≡ read
       → read_wanted expected read bytes ≡ started s → Again bytes
   unfolding read_wanted
-  wanted_written_back bytes are (header_read.Refused e) is p = absurd (refused_is_no_start p)
-  wanted_written_back bytes are (header_read.Ok header) is p =
+  wanted_written_back bytes are (Err e) is p = absurd (refused_is_no_start p)
+  wanted_written_back bytes are (Ok header) is p =
       let (wanted, next, wanted-back, q) = number_back bytes 14 are (read_number bytes 14) refl _ p in
       again_by _ bytes
       (rw (wanted-back, header_written_back bytes are header is) (take-append-drop 14 bytes))

@@ -1,5 +1,6 @@
 -- Laws of a record that is cut short: it is 1, with the offset of the field that is cut.
 -- Assumes nothing.
+use Rattle.std.specs.Prelude.{Ok}
 use mathlib.Core.Path.{◌≡◌, refl, sym, ◌∙◌, ap}
 use mathlib.Core.Bool.{Bool, true, false, cond}
 use mathlib.Core.List.{List, [], ◌∷◌, ◌++◌, append-nil}
@@ -10,12 +11,10 @@ use lib.Dec.{T, ltb}
 use lib.ListN.{length, take, drop, length-append, length-take}
 use lib.Seq.{take-nil, take-append-le, take-append-add, drop_at, drop-drop}
 use Rattle.pixel.specs.declared.error.Error.TheVariants.{UnexpectedBufferEnd}
-use Rattle.pixel.specs.declared.types.ChannelsRead.TheVariants as channels_read
 use Rattle.pixel.specs.declared.types.Channels.{Channels}
 use Rattle.pixel.specs.Types.{channels_number}
 use Rattle.number.specs.Seven.{seven_bits, read_number}
 use Rattle.number.proofs.Laws.{read_written, number_cut, rest_after_written}
-use Rattle.header.specs.declared.HeaderRead.TheVariants as header_read
 use Rattle.header.specs.Header.{header_bytes, header_of}
 use Rattle.header.proofs.Laws.{header_read_back, header_length}
 use Rattle.rules.specs.Step.{State, Typed, well_formed, Started, not_started}
@@ -129,7 +128,7 @@ module _ (s : State) (typed : Typed s) (well : T (well_formed s)) (expected n : 
   -- the positions after wanted, or what follows them, are
   positions_cut :
       (c : Channels) → channels_number c ≡ s.wanted → at_offset s ≤ n
-      → read_positions expected s.header (channels_read.Ok c) (take n (record_bytes s)) (at_offset s)
+      → read_positions expected s.header (Ok c) (take n (record_bytes s)) (at_offset s)
       ≡ not_started
       (UnexpectedBufferEnd
       (cond (ltb n (pixel_offset s)) (at_offset s)
@@ -164,7 +163,7 @@ module _ (s : State) (typed : Typed s) (well : T (well_formed s)) (expected n : 
           let inside : 14 ≤ n = ltb-false n 14 is in
           let count = wanted_channels s.wanted (formed s well).wanted_passes_lem in
           let stands = there n (record_bytes s) 0 (header_bytes s.header) _ refl (omega (arith, header_length s.header)) in
-          let opened : header_of (take n (record_bytes s)) ≡ header_read.Ok s.header =
+          let opened : header_of (take n (record_bytes s)) ≡ Ok s.header =
           rw stands (header_read_back s.header _ typed.width_fits typed.height_fits (formed s well).header_passes_lem) in
           rw opened
           (number_or_cut n (record_bytes s) s.wanted 14 _ (omega (arith, wanted_small s well)) wanted_stands inside _ _

@@ -1,6 +1,7 @@
 -- Laws of the record: reading what was written gives the same state, or 12 under another number, and with more bytes
 -- after it 9 where they begin; a record is 278 to 300 bytes.
 -- Assumes nothing.
+use Rattle.std.specs.Prelude.{Ok}
 use mathlib.Core.Path.{◌≡◌, refl, sym, ◌∙◌, ap, ap₂}
 use mathlib.Core.Bool.{Bool, true, false, cond, ◌||◌}
 use mathlib.Core.List.{List, [], ◌∷◌, ◌++◌, append_assoc, append-nil}
@@ -13,13 +14,11 @@ use lib.Seq.{drop_at, drop-drop}
 use Rattle.pixel.specs.declared.error.Error.{Error}
 use Rattle.pixel.specs.declared.error.Error.TheVariants.{BadState, OtherMessage}
 use Rattle.pixel.specs.declared.Pixel.{Pixel}
-use Rattle.pixel.specs.declared.types.ChannelsRead.TheVariants as channels_read
 use Rattle.pixel.specs.declared.types.Channels.{Channels}
 use Rattle.pixel.specs.declared.types.Channels.TheVariants.{Rgb, Rgba}
 use Rattle.pixel.specs.Colour.{clear_pixel}
 use Rattle.pixel.specs.Types.{channels_number, channels_from}
 use Rattle.number.specs.Seven.{seven_bits, read_number}
-use Rattle.header.specs.declared.HeaderRead.TheVariants as header_read
 use Rattle.header.specs.Header.{header_bytes, header_of, pixel_count}
 use Rattle.number.proofs.Laws.{read_written, rest_after_written, length_at_least_one, length_at_most_ten, length_one, length_at_most_five}
 use Rattle.header.proofs.Laws.{is_true, both, pixels_small, header_read_back, header_length}
@@ -101,12 +100,12 @@ pub left_adds : (s : State) → s.place.pixel + s.left ≡ pixel_count s.header 
 left_adds s e = rw (eq-eqb (s.place.pixel + s.left) (pixel_count s.header) e) tt
 
 -- wanted 3 or 4 is a channel count, and its number is wanted again
-pub wanted_channels : (wanted : ℕ) → T (eqb wanted 3 || eqb wanted 4) → (c : Channels) × (channels_from wanted ≡ channels_read.Ok c) × (channels_number c ≡ wanted)
+pub wanted_channels : (wanted : ℕ) → T (eqb wanted 3 || eqb wanted 4) → (c : Channels) × (channels_from wanted ≡ Ok c) × (channels_number c ≡ wanted)
 wanted_channels wanted t = go (eqb wanted 3) refl (eqb wanted 4) refl t
   where
     go :
         (three : Bool) → eqb wanted 3 ≡ three → (four : Bool) → eqb wanted 4 ≡ four → T (three || four)
-        → (c : Channels) × (channels_from wanted ≡ channels_read.Ok c) × (channels_number c ≡ wanted)
+        → (c : Channels) × (channels_from wanted ≡ Ok c) × (channels_number c ≡ wanted)
     go true e four f t = (Rgb, rw e, sym (eqb-true _ _ e))
     go false e true f t = (Rgba, rw (e, f), sym (eqb-true _ _ f))
     go false e false f t = absurd t
@@ -207,7 +206,7 @@ module _ (s : State) (typed : Typed s) (well : T (well_formed s)) where
   positions_read :
       (expected start : ℕ) (bytes extra : List ℕ) (c : Channels) → channels_number c ≡ s.wanted
       → drop start bytes ≡ seven_bits s.place.at ++ (seven_bits s.place.pixel ++ (s.place.current.rgba ++ (pixels_bytes s.place.slots ++ (seven_bits s.number ++ extra))))
-      → read_positions expected s.header (channels_read.Ok c) bytes start
+      → read_positions expected s.header (Ok c) bytes start
       ≡ accept_state expected s
       (start + length (seven_bits s.place.at) + length (seven_bits s.place.pixel) + 260 + length (seven_bits s.number))
       (length bytes)
@@ -232,7 +231,7 @@ module _ (s : State) (typed : Typed s) (well : T (well_formed s)) where
       let stands : drop 14 (record_bytes s ++ extra) ≡ rest =
       rw joined (drop_at (header_bytes s.header) rest 14 (header_length s.header)) in
       let positions-stand = rest_after_written s.wanted 14 (record_bytes s ++ extra) _ stands in
-      let opened : header_of (record_bytes s ++ extra) ≡ header_read.Ok s.header =
+      let opened : header_of (record_bytes s ++ extra) ≡ Ok s.header =
       rw joined (header_read_back s.header rest typed.width_fits typed.height_fits (formed s well).header_passes_lem) in
       let end : 14 + length (seven_bits s.wanted) + length (seven_bits s.place.at) + length (seven_bits s.place.pixel) + 260 + length (seven_bits s.number) ≡ length (record_bytes s) =
       simp (length-append, header_length s.header) (omega (arith, simp length-append at slots_length)) in

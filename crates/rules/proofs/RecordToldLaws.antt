@@ -1,6 +1,7 @@
 -- Laws of what a refused record is told: which refusals there are, where 1 and 9 point, and that the fields stand where a
 -- fault of state is told.
 -- Assumes nothing.
+use Rattle.std.specs.Prelude.{Result, Ok}
 use mathlib.Core.Path.{◌≡◌, refl}
 use mathlib.Core.Bool.{Bool, true, false, cond}
 use mathlib.Core.List.{List}
@@ -9,27 +10,21 @@ use native.Mathlib.Omega.{arith}
 use borrow.Author.Tests.{eqb-true, eqb-false, ltb-true, ltb-false}
 use lib.Dec.{ltb, eqb}
 use lib.ListN.{length, get_or}
-use Rattle.pixel.specs.declared.types.ChannelsRead.{ChannelsRead}
-use Rattle.pixel.specs.declared.types.ChannelsRead.TheVariants as channels_read
 use Rattle.pixel.specs.declared.types.Channels.{Channels}
 use Rattle.pixel.specs.declared.types.Channels.TheVariants.{Rgb, Rgba}
-use Rattle.pixel.specs.declared.types.ColorSpaceRead.{ColorSpaceRead}
-use Rattle.pixel.specs.declared.types.ColorSpaceRead.TheVariants as colorspace_read
 use Rattle.pixel.specs.declared.types.ColorSpace.{ColorSpace}
 use Rattle.pixel.specs.declared.types.ColorSpace.TheVariants.{Srgb, Linear}
 use Rattle.pixel.specs.Bytes.{AllBytes}
 use Rattle.pixel.specs.Types.{channels_number, channels_from}
-use Rattle.number.specs.declared.NumberRead.{NumberRead}
-use Rattle.number.specs.declared.NumberRead.TheVariants as number_read
-use Rattle.number.specs.Seven.{seven_bits, read_number}
+use Rattle.number.specs.declared.Number.{Number}
+use Rattle.number.specs.Seven.{seven_bits, number_read, read_number}
 use Rattle.number.proofs.Laws.{ReadAt, is_read, is_cut, is_bad, number_at_lem, read_bounds, read_used}
 use Rattle.header.specs.declared.Header.{Header}
-use Rattle.header.specs.declared.HeaderRead.{HeaderRead}
-use Rattle.header.specs.declared.HeaderRead.TheVariants as header_read
 use Rattle.header.specs.Header.{number_at, magic_number, dimensions_fit, header_from, after_color_space, after_channels, header_of}
 use Rattle.rules.specs.Step.{State, at_passes, pixel_passes, well_formed, Started}
 use Rattle.rules.specs.Record.{after_number, at_offset, pixel_offset, current_offset, fault_offset, accept_number, accept_state, read_slots, read_positions, read_wanted, read_record}
 use Rattle.rules.specs.Damage.{Told, taken, header_cut, field_cut, channels_bad, color_space_bad, magic_bad, dimensions_bad, field_bad, of_another}
+use Rattle.pixel.specs.declared.error.Error.{Error}
 
 -- what holds of each way of a test holds of what it picks
 either : {A : Type 0} (P : A → Type 0) (test : Bool) (a b : A) → (test ≡ true → P a) → (test ≡ false → P b) → P (cond test a b)
@@ -50,9 +45,9 @@ module _ (bytes : List ℕ) (are : AllBytes bytes) where
   -- numbers that were read one after another, from wanted on, stand where the record of their state has them
   pub fields_there :
       (s : State) (wanted-used at-used pixel-used : ℕ)
-      → read_number bytes 14 ≡ number_read.Number s.wanted wanted-used
-      → read_number bytes (14 + wanted-used) ≡ number_read.Number s.place.at at-used
-      → read_number bytes (14 + wanted-used + at-used) ≡ number_read.Number s.place.pixel pixel-used
+      → read_number bytes 14 ≡ number_read s.wanted wanted-used
+      → read_number bytes (14 + wanted-used) ≡ number_read s.place.at at-used
+      → read_number bytes (14 + wanted-used + at-used) ≡ number_read s.place.pixel pixel-used
       → (at_offset s ≡ 14 + wanted-used)
       × (pixel_offset s ≡ 14 + wanted-used + at-used)
       × (current_offset s ≡ 14 + wanted-used + at-used + pixel-used)
@@ -65,9 +60,9 @@ module _ (bytes : List ℕ) (are : AllBytes bytes) where
   module _ (expected : ℕ) where
     -- a number, and then what follows it
     number_told :
-        (start : ℕ) → 14 ≤ start → start ≤ length bytes → (r : NumberRead) → read_number bytes start ≡ r
+        (start : ℕ) → 14 ≤ start → start ≤ length bytes → (r : Result Number Error) → read_number bytes start ≡ r
         → ReadAt start (length bytes) r → (next : ℕ → ℕ → Started)
-        → ((value used : ℕ) → read_number bytes start ≡ number_read.Number value used → Told (length bytes) (next value (start + used)))
+        → ((value used : ℕ) → read_number bytes start ≡ number_read value used → Told (length bytes) (next value (start + used)))
         → Told (length bytes) (after_number start r next)
     unfolding after_number
     number_told start past inside _ is (is_read value used) next then = then value used is
@@ -107,7 +102,7 @@ module _ (bytes : List ℕ) (are : AllBytes bytes) where
     -- after wanted, which is a channel count
     channels_told :
         (header : Header) (c : Channels) (start : ℕ) → 14 + length (seven_bits (channels_number c)) ≡ start → start ≤ length bytes
-        → Told (length bytes) (read_positions expected header (channels_read.Ok c) bytes start)
+        → Told (length bytes) (read_positions expected header (Ok c) bytes start)
     unfolding read_positions
     channels_told header c start stands inside =
         number_told start (omega arith) inside (read_number bytes start) refl (number_at_lem bytes start inside) _
@@ -126,14 +121,14 @@ module _ (bytes : List ℕ) (are : AllBytes bytes) where
         → Told (length bytes) (read_positions expected header (channels_from wanted) bytes start)
     unfolding read_positions
     positions_told header wanted start stands inside =
-        let P : ChannelsRead → Type 0 = λ read. Told (length bytes) (read_positions expected header read bytes start) in
+        let P : Result Channels Error → Type 0 = λ read. Told (length bytes) (read_positions expected header read bytes start) in
         either P (eqb wanted 3) _ _ (λ three. channels_told header Rgb start (rw (eqb-true wanted 3 three) at stands) inside)
         (λ other.
         either P (eqb wanted 4) _ _ (λ four. channels_told header Rgba start (rw (eqb-true wanted 4 four) at stands) inside)
         (λ neither. channels_bad _))
 
     -- after the header
-    wanted_told : (header : Header) → 14 ≤ length bytes → Told (length bytes) (read_wanted expected (header_read.Ok header) bytes)
+    wanted_told : (header : Header) → 14 ≤ length bytes → Told (length bytes) (read_wanted expected (Ok header) bytes)
     unfolding read_wanted
     wanted_told header long =
         number_told 14 (omega arith) long (read_number bytes 14) refl (number_at_lem bytes 14 long) _
@@ -143,10 +138,10 @@ module _ (bytes : List ℕ) (are : AllBytes bytes) where
     -- the header after its colour space
     space_told :
         (c : Channels) (space : ColorSpace) → 14 ≤ length bytes
-        → Told (length bytes) (read_wanted expected (after_color_space bytes c (colorspace_read.Ok space)) bytes)
+        → Told (length bytes) (read_wanted expected (after_color_space bytes c (Ok space)) bytes)
     unfolding after_color_space header_from read_wanted
     space_told c space long =
-        let P : HeaderRead → Type 0 = λ read. Told (length bytes) (read_wanted expected read bytes) in
+        let P : Result Header Error → Type 0 = λ read. Told (length bytes) (read_wanted expected read bytes) in
         either P (eqb (number_at bytes 0) magic_number) _ _
         (λ same.
         either P (dimensions_fit (number_at bytes 4) (number_at bytes 8)) _ _ (λ fit. wanted_told _ long) (λ bad. dimensions_bad _ _))
@@ -155,10 +150,10 @@ module _ (bytes : List ℕ) (are : AllBytes bytes) where
     -- the header after its channels
     header_told :
         (c : Channels) → 14 ≤ length bytes
-        → Told (length bytes) (read_wanted expected (after_channels bytes (channels_read.Ok c)) bytes)
+        → Told (length bytes) (read_wanted expected (after_channels bytes (Ok c)) bytes)
     unfolding after_channels after_color_space read_wanted
     header_told c long =
-        let P : ColorSpaceRead → Type 0 = λ read. Told (length bytes) (read_wanted expected (after_color_space bytes c read) bytes) in
+        let P : Result ColorSpace Error → Type 0 = λ read. Told (length bytes) (read_wanted expected (after_color_space bytes c read) bytes) in
         either P (eqb (get_or bytes 13 0) 0) _ _ (λ is. space_told c Srgb long)
         (λ other. either P (eqb (get_or bytes 13 0) 1) _ _ (λ is. space_told c Linear long) (λ neither. color_space_bad _))
 
@@ -166,8 +161,8 @@ module _ (bytes : List ℕ) (are : AllBytes bytes) where
     pub record_told : Told (length bytes) (read_record expected bytes)
     unfolding read_record read_wanted header_of after_channels
     record_told =
-        let P : HeaderRead → Type 0 = λ read. Told (length bytes) (read_wanted expected read bytes) in
-        let Q : ChannelsRead → Type 0 = λ read. Told (length bytes) (read_wanted expected (after_channels bytes read) bytes) in
+        let P : Result Header Error → Type 0 = λ read. Told (length bytes) (read_wanted expected read bytes) in
+        let Q : Result Channels Error → Type 0 = λ read. Told (length bytes) (read_wanted expected (after_channels bytes read) bytes) in
         either P (ltb (length bytes) 14) _ _ (λ cut. header_cut (ltb-true (length bytes) 14 cut))
         (λ whole.
         let long = ltb-false (length bytes) 14 whole in

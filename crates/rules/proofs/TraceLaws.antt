@@ -1,5 +1,6 @@
 -- Laws of a message whose header is known: its reading, and the chunks that are read of it.
 -- Assumes nothing.
+use Rattle.std.specs.Prelude.{Ok}
 use mathlib.Core.Path.{◌≡◌, refl, ap}
 use mathlib.Core.Bool.{Bool, true, false, cond}
 use mathlib.Core.List.{List, [], ◌∷◌, ◌++◌}
@@ -12,7 +13,6 @@ use Rattle.pixel.specs.declared.error.Error.{Error}
 use Rattle.pixel.specs.declared.types.Channels.{Channels}
 use Rattle.pixel.specs.Types.{channels_number}
 use Rattle.header.specs.declared.Header.{Header}
-use Rattle.header.specs.declared.HeaderRead.TheVariants as header_read
 use Rattle.header.specs.Header.{pixel_count, header_of}
 use Rattle.header.proofs.Laws.{channels_read_back}
 use Rattle.rules.specs.Chunk.{Found, cut, chunk, chunk_at}
@@ -26,13 +26,13 @@ refused_is_not_done p = let z : ◌≡◌ {A = ℕ} 0 1 = cc in omega arith
 
 -- the reading of a message whose header is known
 pub whole_is :
-    (way : Way) (m : List ℕ) (header : Header) (c : Channels) (room : ℕ) → header_of m ≡ header_read.Ok header
+    (way : Way) (m : List ℕ) (header : Header) (c : Channels) (room : ℕ) → header_of m ≡ Ok header
     → whole_reading way m (channels_number c) room ≡ reading_into way header (channels_number c) m room
 unfolding whole_reading after_header after_wanted
 whole_is way m header c room reads = rw (reads, channels_read_back c)
 
 -- the chunks of a message whose header is known
-pub trace_is : (m : List ℕ) (header : Header) → header_of m ≡ header_read.Ok header → trace m ≡ visits header m (pixel_count header) start_place
+pub trace_is : (m : List ℕ) (header : Header) → header_of m ≡ Ok header → trace m ≡ visits header m (pixel_count header) start_place
 unfolding trace header_trace
 trace_is m header reads = rw reads
 
@@ -79,7 +79,7 @@ reading_traced header m (suc n) place = test (reading_traced header m n) (ltb pl
 
 -- the trace is what a decode reads: where there is room the decode writes the bytes of its chunks, and nothing else
 pub decode_traced :
-    (m : List ℕ) (header : Header) (room : ℕ) → header_of m ≡ header_read.Ok header → size_wanted header (own_channels header) ≤ room
+    (m : List ℕ) (header : Header) (room : ℕ) → header_of m ≡ Ok header → size_wanted header (own_channels header) ≤ room
     → (decoding m (own_channels header) room).bytes ≡ bytes_in (trace m)
 unfolding reading_into
 decode_traced m header room reads fits =

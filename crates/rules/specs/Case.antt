@@ -1,12 +1,12 @@
 -- One case of the list in `Cases`: its kinds, what each is given and what must come, and the test whether it holds.
-use Rattle.std.specs.Prelude.{Bool, true, false, not, ◌&&◌, List, [], ◌∷◌, ◌++◌, map, ℕ, ◌+◌, ◌-◌, ◌*◌, eqb, length, take, drop, replicate}
+use Rattle.std.specs.Prelude.{Bool, true, false, not, ◌&&◌, List, [], ◌∷◌, ◌++◌, map, ℕ, ◌+◌, ◌-◌, ◌*◌, eqb, length, take, drop, replicate, Result, Ok, Err}
+use Rattle.pixel.specs.declared.error.Error.{Error}
 use Rattle.pixel.specs.declared.types.Channels.{Channels}
 use Rattle.pixel.specs.declared.types.Channels.TheVariants.{Rgb}
 use Rattle.pixel.specs.declared.types.ColorSpace.TheVariants.{Srgb}
 use Rattle.pixel.specs.Colour.{slot_of, pixel_of, clear_pixel}
 use Rattle.pixel.specs.Types.{channels_number, color_space_number}
-use Rattle.number.specs.declared.NumberRead.{NumberRead}
-use Rattle.number.specs.declared.NumberRead.TheVariants as number_read
+use Rattle.number.specs.declared.Number.{Number}
 use Rattle.number.specs.Seven.{seven_bits_of, seven_bits, group_below, read_more, read_first, read_number}
 use Rattle.header.specs.declared.Header.{Header}
 use Rattle.header.specs.Header.{header_bytes, header_from, after_color_space, after_channels, header_of}
@@ -64,9 +64,9 @@ pub data Case : Type 0 where
   differ : List ℕ → List ℕ → Case
 
 -- a number read: its value, the bytes that it took
-abbrev number_figures : NumberRead → List ℕ
-number_figures (number_read.Number value used) = 0 ∷ value ∷ used ∷ 0 ∷ 0 ∷ []
-number_figures (number_read.Refused e) = refusal_figures e
+abbrev number_figures : Result Number Error → List ℕ
+number_figures (Ok number) = 0 ∷ number.value ∷ number.used ∷ 0 ∷ 0 ∷ []
+number_figures (Err e) = refusal_figures e
 
 -- a start or a take-up: byte position, pixel position, wanted channels, pixels left
 abbrev start_figures : Started → List ℕ

@@ -1,23 +1,19 @@
 -- The encoder's rules: the chunks that it chooses, how they are written, the stream of a picture, and the order of
 -- the refusals.
 -- The order of refusals reads from the bottom up, in two parts: a picture's header (5, 6, 2), and then 3 and 7.
-use Rattle.std.specs.Prelude.{Bool, true, false, cond, ◌&&◌, ◌||◌, List, [], ◌∷◌, ◌++◌, ◌≡◌, ℕ, ◌+◌, ◌-◌, ◌*◌, ◌/◌, ◌%◌, T, ltb, eqb, length, get_or, set, replicate}
+use Rattle.std.specs.Prelude.{Bool, true, false, cond, ◌&&◌, ◌||◌, List, [], ◌∷◌, ◌++◌, ◌≡◌, ℕ, ◌+◌, ◌-◌, ◌*◌, ◌/◌, ◌%◌, T, ltb, eqb, length, get_or, set, replicate, Result, Ok, Err}
 use Rattle.pixel.specs.declared.Pixel.{Pixel}
 use Rattle.pixel.specs.declared.error.Error.{Error}
 use Rattle.pixel.specs.declared.error.Error.TheVariants.{InvalidImageDimensions, InvalidImageLength, OutputBufferTooSmall}
-use Rattle.pixel.specs.declared.types.ChannelsRead.{ChannelsRead}
-use Rattle.pixel.specs.declared.types.ChannelsRead.TheVariants as channels_read
-use Rattle.pixel.specs.declared.types.ColorSpaceRead.{ColorSpaceRead}
-use Rattle.pixel.specs.declared.types.ColorSpaceRead.TheVariants as colorspace_read
 use Rattle.pixel.specs.Bytes.{pixels_from}
 use Rattle.pixel.specs.Colour.{red, green, blue, alpha, start_pixel, clear_pixel, slot_of, same_pixel, wrapped_sum, wrapped_difference, signed_of, within}
 use Rattle.pixel.specs.Types.{channels_number, channels_from, color_space_from}
 use Rattle.header.specs.declared.Header.{Header}
-use Rattle.header.specs.declared.HeaderRead.{HeaderRead}
-use Rattle.header.specs.declared.HeaderRead.TheVariants as header_read
 use Rattle.header.specs.Header.{pixel_count, dimensions_fit, header_from, header_bytes, encoded_room, with_channels, with_color_space, default_header}
 use Rattle.rules.specs.Chunk.{Chunk, INDEX, DIFF, LUMA, RUN, RGB, RGBA, Stuck}
 use Rattle.rules.specs.Reading.{marker}
+use Rattle.pixel.specs.declared.types.Channels.{Channels}
+use Rattle.pixel.specs.declared.types.ColorSpace.{ColorSpace}
 
 -- DIFF holds -2..1 in each colour
 unfoldable pub fits_diff : ℕ → ℕ → ℕ → Bool
@@ -154,21 +150,21 @@ pub record PictureOf (header : Header) (picture : List ℕ) : Type 0 where
   pub needed : length picture ≡ pixel_count header * channels_number header.channels
 
 -- then 2, carrying the quotient or 255 if larger
-unfoldable pub after_length : Header → ChannelsRead → HeaderRead
-after_length header (channels_read.Refused e) = header_read.Refused e
-after_length header (channels_read.Ok channels) = header_read.Ok (with_channels header channels)
+unfoldable pub after_length : Header → Result Channels Error → Result Header Error
+after_length header (Err e) = Err e
+after_length header (Ok channels) = Ok (with_channels header channels)
 
 module _ (picture : List ℕ) where
   -- then 6 if the length is not a multiple of the pixels
-  unfoldable pub after_dimensions : HeaderRead → HeaderRead
-  after_dimensions (header_read.Refused e) = header_read.Refused e
-  after_dimensions (header_read.Ok header) =
+  unfoldable pub after_dimensions : Result Header Error → Result Header Error
+  after_dimensions (Err e) = Err e
+  after_dimensions (Ok header) =
       cond (eqb (length picture % pixel_count header) 0)
       (after_length header (channels_from (length picture / pixel_count header)))
-      (header_read.Refused (InvalidImageLength (length picture) header.width header.height))
+      (Err (InvalidImageLength (length picture) header.width header.height))
 
   -- the header of a picture of these dimensions: 5, 6, 2
-  unfoldable pub picture_header : ℕ → ℕ → HeaderRead
+  unfoldable pub picture_header : ℕ → ℕ → Result Header Error
   picture_header width height =
       after_dimensions (header_from width height default_header.channels default_header.colorspace)
 
@@ -181,14 +177,14 @@ module _ (picture : List ℕ) where
         (record { answer = encoded (length (stream_of header picture)); bytes = stream_of header picture })
 
     -- then 3 for a colour space above 1
-    unfoldable pub after_space : Header → ColorSpaceRead → Encoding
-    after_space header (colorspace_read.Refused e) = nothing_encoded e
-    after_space header (colorspace_read.Ok colorspace) = encoding_into (with_color_space header colorspace)
+    unfoldable pub after_space : Header → Result ColorSpace Error → Encoding
+    after_space header (Err e) = nothing_encoded e
+    after_space header (Ok colorspace) = encoding_into (with_color_space header colorspace)
 
     -- first the header
-    unfoldable pub after_picture_header : ℕ → HeaderRead → Encoding
-    after_picture_header colorspace (header_read.Refused e) = nothing_encoded e
-    after_picture_header colorspace (header_read.Ok header) = after_space header (color_space_from colorspace)
+    unfoldable pub after_picture_header : ℕ → Result Header Error → Encoding
+    after_picture_header colorspace (Err e) = nothing_encoded e
+    after_picture_header colorspace (Ok header) = after_space header (color_space_from colorspace)
 
     -- encoding a picture under a header that is given: 5, then 6 if the picture has another length, then 7
     unfoldable pub encoding_under : Header → Encoding

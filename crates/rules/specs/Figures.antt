@@ -1,24 +1,21 @@
 -- Answers as numbers: 0 or the refusal's number, then four figures.
-use Rattle.std.specs.Prelude.{List, [], ◌∷◌, ℕ}
+use Rattle.std.specs.Prelude.{List, [], ◌∷◌, ℕ, Result, Ok, Err}
 use Rattle.pixel.specs.declared.error.Error.{Error}
-use Rattle.pixel.specs.declared.error.Worded.{Worded}
-use Rattle.pixel.specs.declared.error.Worded.TheVariants as worded
 use Rattle.pixel.specs.Refusal.{number_of, figures_of}
 use Rattle.pixel.specs.Types.{channels_number, color_space_number}
-use Rattle.header.specs.declared.HeaderRead.{HeaderRead}
-use Rattle.header.specs.declared.HeaderRead.TheVariants as header_read
 use Rattle.rules.specs.Reading.{Answer, done, refused}
 use Rattle.rules.specs.Encode.{EncodeAnswer, encoded, not_encoded}
 use Rattle.rules.specs.Strict.{StrictAnswer, accepted, rejected}
+use Rattle.header.specs.declared.Header.{Header}
 
 -- a refusal: its number and its figures
 abbrev pub refusal_figures : Error → List ℕ
 refusal_figures e = number_of e ∷ figures_of e
 
 -- a header: width, height, channels, colour space
-abbrev pub header_figures : HeaderRead → List ℕ
-header_figures (header_read.Ok h) = 0 ∷ h.width ∷ h.height ∷ channels_number h.channels ∷ color_space_number h.colorspace ∷ []
-header_figures (header_read.Refused e) = refusal_figures e
+abbrev pub header_figures : Result Header Error → List ℕ
+header_figures (Ok h) = 0 ∷ h.width ∷ h.height ∷ channels_number h.channels ∷ color_space_number h.colorspace ∷ []
+header_figures (Err e) = refusal_figures e
 
 -- a decode: bytes written, message bytes used
 abbrev pub answer_figures : Answer → List ℕ
@@ -36,6 +33,6 @@ strict_figures (accepted header chunks bytes) = 0 ∷ chunks ∷ bytes ∷ 0 ∷
 strict_figures (rejected e) = refusal_figures e
 
 -- words: bytes written
-abbrev pub worded_figures : Worded → List ℕ
-worded_figures (worded.Done size) = 0 ∷ size ∷ 0 ∷ 0 ∷ 0 ∷ []
-worded_figures (worded.Refused e) = refusal_figures e
+abbrev pub worded_figures : Result ℕ Error → List ℕ
+worded_figures (Ok size) = 0 ∷ size ∷ 0 ∷ 0 ∷ 0 ∷ []
+worded_figures (Err e) = refusal_figures e

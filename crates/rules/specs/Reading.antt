@@ -1,20 +1,17 @@
 -- Reading a message chunk by chunk, over a `Way`: the points on which the decoder's rules and the document's differ.
 -- The order of refusals reads from the bottom up: the last definition of it makes the first test.
-use Rattle.std.specs.Prelude.{Bool, cond, List, [], ◌∷◌, ◌++◌, ℕ, zero, suc, ◌+◌, ◌-◌, ◌*◌, min, ltb, length, take, drop, set, replicate}
+use Rattle.std.specs.Prelude.{Bool, cond, List, [], ◌∷◌, ◌++◌, ℕ, zero, suc, ◌+◌, ◌-◌, ◌*◌, min, ltb, length, take, drop, set, replicate, Result, Ok, Err}
 use Rattle.pixel.specs.declared.Pixel.{Pixel}
 use Rattle.pixel.specs.declared.error.Error.{Error}
 use Rattle.pixel.specs.declared.error.Error.TheVariants.{InvalidPadding, OutputBufferTooSmall}
 use Rattle.pixel.specs.Refusal.{ended_early}
-use Rattle.pixel.specs.declared.types.ChannelsRead.{ChannelsRead}
-use Rattle.pixel.specs.declared.types.ChannelsRead.TheVariants as channels_read
 use Rattle.pixel.specs.Colour.{slot_of, start_pixel, clear_pixel}
 use Rattle.pixel.specs.Types.{channels_number, channels_from}
 use Rattle.header.specs.declared.Header.{Header}
-use Rattle.header.specs.declared.HeaderRead.{HeaderRead}
-use Rattle.header.specs.declared.HeaderRead.TheVariants as header_read
 use Rattle.header.specs.Header.{pixel_count, header_of}
 use Rattle.rules.specs.Bytes.{same_bytes, repeated}
 use Rattle.rules.specs.Chunk.{Chunk, Found, cut, chunk, chunk_at, colour_of, times_of, size_of}
+use Rattle.pixel.specs.declared.types.Channels.{Channels}
 
 -- the points on which two decoders may differ
 pub record Way : Type 0 where
@@ -132,14 +129,14 @@ module _ (way : Way) (header : Header) (wanted : ℕ) (message : List ℕ) where
 
 module _ (way : Way) (message : List ℕ) (room : ℕ) where
   -- 2 for wanted other than 3 or 4
-  unfoldable pub after_wanted : Header → ChannelsRead → Reading
-  after_wanted header (channels_read.Refused e) = silent (refused e)
-  after_wanted header (channels_read.Ok channels) = reading_into way header (channels_number channels) message room
+  unfoldable pub after_wanted : Header → Result Channels Error → Reading
+  after_wanted header (Err e) = silent (refused e)
+  after_wanted header (Ok channels) = reading_into way header (channels_number channels) message room
 
   -- the header's refusals come first
-  unfoldable pub after_header : ℕ → HeaderRead → Reading
-  after_header wanted (header_read.Refused e) = silent (refused e)
-  after_header wanted (header_read.Ok header) = after_wanted header (channels_from wanted)
+  unfoldable pub after_header : ℕ → Result Header Error → Reading
+  after_header wanted (Err e) = silent (refused e)
+  after_header wanted (Ok header) = after_wanted header (channels_from wanted)
 
 -- decoding: header, 2, 7, chunks
 unfoldable pub whole_reading : Way → List ℕ → ℕ → ℕ → Reading

@@ -1,23 +1,19 @@
 -- The record of a state: its bytes, writing them, and reading them left to right with the order of the refusals.
 -- The order of refusals reads from the bottom up: the last definition of it makes the first test.
-use Rattle.std.specs.Prelude.{cond, List, [], ◌∷◌, ◌++◌, ℕ, ◌+◌, ◌-◌, ltb, eqb, length, drop}
+use Rattle.std.specs.Prelude.{cond, List, [], ◌∷◌, ◌++◌, ℕ, ◌+◌, ◌-◌, ltb, eqb, length, drop, Result, Ok, Err}
 use Rattle.pixel.specs.declared.Pixel.{Pixel}
 use Rattle.pixel.specs.declared.error.Error.{Error}
 use Rattle.pixel.specs.declared.error.Error.TheVariants.{UnexpectedBufferEnd, BadState, OutputBufferTooSmall, OtherMessage}
 use Rattle.pixel.specs.Refusal.{bad_state}
-use Rattle.pixel.specs.declared.types.ChannelsRead.{ChannelsRead}
-use Rattle.pixel.specs.declared.types.ChannelsRead.TheVariants as channels_read
 use Rattle.pixel.specs.Types.{channels_number, channels_from}
-use Rattle.number.specs.declared.NumberRead.{NumberRead}
-use Rattle.number.specs.declared.NumberRead.TheVariants as number_read
+use Rattle.number.specs.declared.Number.{Number}
 use Rattle.number.specs.Seven.{seven_bits, read_number}
 use Rattle.header.specs.declared.Header.{Header}
-use Rattle.header.specs.declared.HeaderRead.{HeaderRead}
-use Rattle.header.specs.declared.HeaderRead.TheVariants as header_read
 use Rattle.header.specs.Header.{pixel_count, header_bytes, header_of}
 use Rattle.rules.specs.Bytes.{written_over}
 use Rattle.pixel.specs.Bytes.{pixel_from, pixels_from}
 use Rattle.rules.specs.Step.{State, at_passes, pixel_passes, well_formed, Started, started, not_started}
+use Rattle.pixel.specs.declared.types.Channels.{Channels}
 
 -- pixels one after another, four bytes each
 unfoldable pub pixels_bytes : List Pixel → List ℕ
@@ -55,9 +51,9 @@ recorded_over s out =
     cond (well_formed s) (cond (ltb (length out) (length (record_bytes s))) out (written_over (record_bytes s) out)) out
 
 -- a number that starts at an offset, and then what starts where it ends
-unfoldable pub after_number : ℕ → NumberRead → (ℕ → ℕ → Started) → Started
-after_number start (number_read.Number value used) next = next value (start + used)
-after_number start (number_read.Refused e) next = not_started e
+unfoldable pub after_number : ℕ → Result Number Error → (ℕ → ℕ → Started) → Started
+after_number start (Ok number) next = next number.value (start + number.used)
+after_number start (Err e) next = not_started e
 
 -- last of all 12, with the number found, for another number than the one expected
 unfoldable pub accept_number : ℕ → State → Started
@@ -110,18 +106,18 @@ read_slots expected header wanted at pixel bytes start =
     end (length bytes))))
 
 -- after wanted, where other than 3 or 4 is 2: byte position and pixel position
-unfoldable pub read_positions : ℕ → Header → ChannelsRead → List ℕ → ℕ → Started
-read_positions expected header (channels_read.Refused e) bytes start = not_started e
-read_positions expected header (channels_read.Ok channels) bytes start =
+unfoldable pub read_positions : ℕ → Header → Result Channels Error → List ℕ → ℕ → Started
+read_positions expected header (Err e) bytes start = not_started e
+read_positions expected header (Ok channels) bytes start =
     after_number start (read_number bytes start)
     (λ at next.
     after_number next (read_number bytes next)
     (λ pixel last. read_slots expected header (channels_number channels) at pixel bytes last))
 
 -- after the header, with its refusals: wanted
-unfoldable pub read_wanted : ℕ → HeaderRead → List ℕ → Started
-read_wanted expected (header_read.Refused e) bytes = not_started e
-read_wanted expected (header_read.Ok header) bytes =
+unfoldable pub read_wanted : ℕ → Result Header Error → List ℕ → Started
+read_wanted expected (Err e) bytes = not_started e
+read_wanted expected (Ok header) bytes =
     after_number 14 (read_number bytes 14) (λ wanted next. read_positions expected header (channels_from wanted) bytes next)
 
 -- reading a record, given the message's number that is expected: header; numbers, cut 1 or not shortest 9; wanted 2 at

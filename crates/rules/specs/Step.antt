@@ -1,20 +1,17 @@
 -- Steps: the state that moves on by value, when it is well formed, a start, one step, and n steps.
 -- The order of refusals reads from the bottom up: the last definition of it makes the first test.
-use Rattle.std.specs.Prelude.{Bool, cond, not, ◌&&◌, ◌||◌, List, ◌≡◌, ℕ, zero, suc, ◌+◌, ◌-◌, ◌*◌, ◌^◌, ◌<◌, ltb, leb, eqb, length, get_or}
+use Rattle.std.specs.Prelude.{Bool, cond, not, ◌&&◌, ◌||◌, List, ◌≡◌, ℕ, zero, suc, ◌+◌, ◌-◌, ◌*◌, ◌^◌, ◌<◌, ltb, leb, eqb, length, get_or, Result, Ok, Err}
 use Rattle.pixel.specs.declared.error.Error.{Error}
 use Rattle.pixel.specs.declared.error.Error.TheVariants.{OutputBufferTooSmall}
 use Rattle.pixel.specs.Refusal.{bad_state}
-use Rattle.pixel.specs.declared.types.ChannelsRead.{ChannelsRead}
-use Rattle.pixel.specs.declared.types.ChannelsRead.TheVariants as channels_read
 use Rattle.pixel.specs.Colour.{alpha, clear_pixel}
 use Rattle.pixel.specs.Types.{channels_number, channels_from}
 use Rattle.header.specs.declared.Header.{Header}
-use Rattle.header.specs.declared.HeaderRead.{HeaderRead}
-use Rattle.header.specs.declared.HeaderRead.TheVariants as header_read
 use Rattle.header.specs.Header.{pixel_count, dimensions_fit, header_of}
 use Rattle.rules.specs.Bytes.{pasted}
 use Rattle.rules.specs.Reading.{Place, Answer, refused, Move, start_place, size_wanted, move}
 use Rattle.rules.specs.Decode.{decoder}
+use Rattle.pixel.specs.declared.types.Channels.{Channels}
 
 -- header, wanted channels, the place (byte position, pixel position, current pixel, slots), the pixels left, and the
 -- broker's number of the message
@@ -75,14 +72,14 @@ start_state header number wanted =
     record { header = header; wanted = wanted; place = start_place; left = pixel_count header; number = number }
 
 -- 2 for wanted other than 3 or 4; else the start's state
-unfoldable pub start_wanted : Header → ℕ → ChannelsRead → Started
-start_wanted header number (channels_read.Refused e) = not_started e
-start_wanted header number (channels_read.Ok channels) = started (start_state header number (channels_number channels))
+unfoldable pub start_wanted : Header → ℕ → Result Channels Error → Started
+start_wanted header number (Err e) = not_started e
+start_wanted header number (Ok channels) = started (start_state header number (channels_number channels))
 
 -- the header's refusals come first
-unfoldable pub start_header : ℕ → ℕ → HeaderRead → Started
-start_header number wanted (header_read.Refused e) = not_started e
-start_header number wanted (header_read.Ok header) = start_wanted header number (channels_from wanted)
+unfoldable pub start_header : ℕ → ℕ → Result Header Error → Started
+start_header number wanted (Err e) = not_started e
+start_header number wanted (Ok header) = start_wanted header number (channels_from wanted)
 
 -- starting a stepwise decode of a message, given its number and wanted: header, 2
 unfoldable pub starting : List ℕ → ℕ → ℕ → Started

@@ -1,14 +1,12 @@
 -- The strict check: what a decode accepts, with no run past the image and nothing after the marker; it counts chunks
 -- and bytes.
 -- The order of refusals reads from the bottom up: the last definition of it makes the first test.
-use Rattle.std.specs.Prelude.{Bool, true, cond, ◌&&◌, List, [], ◌∷◌, ℕ, zero, suc, ◌+◌, ◌-◌, ltb, leb, eqb, length, drop}
+use Rattle.std.specs.Prelude.{Bool, true, cond, ◌&&◌, List, [], ◌∷◌, ℕ, zero, suc, ◌+◌, ◌-◌, ltb, leb, eqb, length, drop, Result, Ok, Err}
 use Rattle.pixel.specs.declared.error.Error.{Error}
 use Rattle.pixel.specs.declared.error.Error.TheVariants.{InvalidPadding, RunPastImage, BytesAfterMarker}
 use Rattle.pixel.specs.Refusal.{ended_early}
 use Rattle.pixel.specs.Types.{channels_number}
 use Rattle.header.specs.declared.Header.{Header}
-use Rattle.header.specs.declared.HeaderRead.{HeaderRead}
-use Rattle.header.specs.declared.HeaderRead.TheVariants as header_read
 use Rattle.header.specs.Header.{pixel_count, header_of}
 use Rattle.rules.specs.Chunk.{Chunk, Found, cut, chunk, chunk_at, times_of, size_of, INDEX, DIFF, LUMA, RUN, RGB, RGBA, Stuck}
 use Rattle.rules.specs.Reading.{Answer, closing}
@@ -77,9 +75,9 @@ module _ (header : Header) (message : List ℕ) where
   strict_from (suc n) tally = check_on (strict_from n) (strict_move tally)
 
 -- the header's refusals come first
-unfoldable pub strict_header : List ℕ → HeaderRead → StrictAnswer
-strict_header message (header_read.Refused e) = rejected e
-strict_header message (header_read.Ok header) =
+unfoldable pub strict_header : List ℕ → Result Header Error → StrictAnswer
+strict_header message (Err e) = rejected e
+strict_header message (Ok header) =
     strict_from header message (pixel_count header) (record { at = 14; left = pixel_count header; chunks = 0 })
 
 -- strict: header; each chunk; the end

@@ -1,14 +1,13 @@
 -- What the decoder reads of a message at the header's own channels: the chunks, each where it is found, until no
 -- pixel is left or a chunk is cut.
-use Rattle.std.specs.Prelude.{cond, List, [], ◌∷◌, ℕ, zero, suc, ltb, drop}
+use Rattle.std.specs.Prelude.{cond, List, [], ◌∷◌, ℕ, zero, suc, ltb, drop, Result, Ok, Err}
 use Rattle.pixel.specs.Types.{channels_number}
 use Rattle.header.specs.declared.Header.{Header}
-use Rattle.header.specs.declared.HeaderRead.{HeaderRead}
-use Rattle.header.specs.declared.HeaderRead.TheVariants as header_read
 use Rattle.header.specs.Header.{pixel_count, header_of}
 use Rattle.rules.specs.Chunk.{Chunk, Found, cut, chunk, chunk_at}
 use Rattle.rules.specs.Reading.{Place, start_place, place_after}
 use Rattle.rules.specs.Decode.{decoder, decoder_reads_rgba}
+use Rattle.pixel.specs.declared.error.Error.{Error}
 
 -- a chunk in the place where it is found
 pub record Visit : Type 0 where
@@ -39,9 +38,9 @@ module _ (header : Header) (message : List ℕ) where
   visits (suc left) place = visits_on header (visits left) place (chunk_due place)
 
 -- a message with no header has no chunk; each chunk brings a pixel, so there are no more of them than pixels
-unfoldable pub header_trace : List ℕ → HeaderRead → List Visit
-header_trace message (header_read.Refused e) = []
-header_trace message (header_read.Ok header) = visits header message (pixel_count header) start_place
+unfoldable pub header_trace : List ℕ → Result Header Error → List Visit
+header_trace message (Err e) = []
+header_trace message (Ok header) = visits header message (pixel_count header) start_place
 
 -- the chunks that the decoder reads of a message
 unfoldable pub trace : List ℕ → List Visit

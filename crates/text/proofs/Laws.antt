@@ -1,16 +1,18 @@
 -- Laws of texts: how one grows byte by byte, and the digits of a number.
 -- Assumes nothing.
-use mathlib.Core.Path.{◌≡◌, refl, ◌∙◌, ap}
+use mathlib.Core.Path.{◌≡◌, refl, sym, ◌∙◌, ap}
 use mathlib.Core.Bool.{Bool, true, false, cond}
-use mathlib.Core.List.{List, [], ◌∷◌, ◌++◌, append-nil}
+use mathlib.Core.List.{List, [], ◌∷◌, ◌++◌}
 use Prim.Native.Nat.{ℕ, zero, suc, ◌+◌, ◌-◌, ◌/◌, ◌%◌, ◌^◌, ◌≤◌, ◌<◌}
 use native.Mathlib.Nat.{pow-suc, pow-le-pow_right, one-le-pow, mod-eq_of_lt, lt_of_not-le}
-use native.Mathlib.Numerals.{add-one}
 use native.Mathlib.Omega.{arith}
 use borrow.Author.Tests.{lt-ltb, le-ltb, ltb-false}
+use Rattle.std.specs.Prelude.{min}
+use Rattle.std.proofs.Math.Nat.{min_comm}
+use Rattle.std.proofs.lemmas.List.{take_min}
 use lib.Dec.{ltb}
-use lib.ListN.{length, take, drop, set, get_or, length-take, length-drop, length-append}
-use lib.Seq.{take_all, take-length, take-append-le, take-suc-set, drop-cons, append_snoc}
+use lib.ListN.{length, take, drop, length-take, length-drop, length-append}
+use lib.Seq.{take_all, take-append-add}
 use Rattle.io.specs.Digits.{hex_digit_ascii, last_digits, IsDigitCount}
 use Rattle.text.specs.declared.Text.{Text}
 use Rattle.text.specs.Text.{Part, say, figure, ascii, decimal, decimal_in, part_bytes, said_after, said, clipped, text_of, put_over}
@@ -23,38 +25,19 @@ onto (suc n) (x ∷ words) more = ap (λ (r : List ℕ). x ∷ r) (onto n words 
 
 -- the first bytes, by how many there are
 pub as_long : (len : ℕ) (bytes : List ℕ) → take (length (take len bytes)) bytes ≡ take len bytes
-as_long zero bytes = refl
-as_long (suc len) [] = refl
-as_long (suc len) (x ∷ bytes) = ap (λ (r : List ℕ). x ∷ r) (as_long len bytes)
+as_long len bytes = rw (length-take, take_min)
 
 -- an output that has room holds the words, then what it held after them
 pub put_room : (words out : List ℕ) → length words ≤ length out → put_over words out ≡ words ++ drop (length words) out
 unfolding put_over
 put_room words out fits = rw (le-ltb (length out) (length words) fits)
 
--- a copy to the front of an output that has room
-pub placed :
-    (words out : List ℕ) → length words ≤ length out
-    → take (length words) words ++ drop (length words) out ≡ put_over words out
-placed words out fits = rw (take-length words, put_room words out fits)
-
-module _ (bytes : List ℕ) (len : ℕ) (room : length bytes ≡ 160) where
-  -- nothing more to add
-  pub ended : clipped (take len bytes ++ []) ≡ take len bytes
-  ended = rw (append-nil (take len bytes)) (take_all 160 (take len bytes) (rw (length-take len bytes) (omega arith)))
-
-  -- no room to add
-  pub full : 160 ≤ len → (more : List ℕ) → clipped (take len bytes ++ more) ≡ take len bytes
-  full past more =
-      rw (take_all len bytes (omega arith)) (take-append-le 160 bytes more (omega arith) ∙ take_all 160 bytes (omega arith))
-
-  -- one byte more
-  pub one_more :
-      len < 160 → (words : List ℕ) (i : ℕ) → i < length words
-      → take (len + 1) (set bytes len (get_or words i 0)) ++ drop (i + 1) words ≡ take len bytes ++ drop i words
-  one_more short words i inside =
-      rw (add-one len, add-one i, take-suc-set bytes len (get_or words i 0) (omega arith), drop-cons words i 0 inside)
-      (append_snoc (take len bytes) (get_or words i 0) (drop (suc i) words))
+-- the bytes added are those for which there is room
+pub added :
+    (said words : List ℕ) → length said ≤ 160 → said ++ take (min (length words) (160 - length said)) words ≡ clipped (said ++ words)
+added said words fits =
+    let room : 160 ≡ length said + (160 - length said) = omega arith in
+    rw (min_comm, take_min) (sym (take-append-add said words (160 - length said)) ∙ ap (λ (n : ℕ). take n (said ++ words)) (sym room))
 
 -- a number's digits, where the fewest that hold it are at most `places`
 pub fewest_digits : (places n k : ℕ) → k ≤ places → IsDigitCount 10 1 n k → last_digits 10 k n ≡ decimal_in places n

@@ -1,2 +1,3 @@
 -- Laws that the proofs of crate `text` share.
 pub mod Laws
+pub mod Utf8

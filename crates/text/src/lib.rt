@@ -1,7 +1,7 @@
 // Words and decimal numbers one after another: a text of at most 160 bytes, made by value, then put into a lent output.
 #![tactic(auto)]
 
-ghost use Rattle.std.specs.Prelude.{◌≡◌, [], ◌++◌, length};
+ghost use Rattle.std.specs.Prelude.{◌≡◌, ◌≤◌, [], ◌++◌, length};
 ghost use Rattle.text.specs.Text.{text_of, clipped, decimal, put_over};
 
 // How many bytes a text may have.
@@ -20,7 +20,7 @@ impl Text {
         ensures { text_of result ≡ [] }
     {
         Text {
-            bytes: [0; 160],
+            bytes: [0; ROOM],
             len: 0,
         }
     }
@@ -29,17 +29,11 @@ impl Text {
     pub fn words(self, words: &[u8]) -> Text
         ensures { text_of result ≡ clipped (text_of self ++ words.now) }
     {
+        let size = self.size();
+        let more = words.len().min(ROOM - size);
+        let len = size + more;
         let mut bytes = self.bytes;
-        let mut len = self.len;
-        let mut i: usize = 0;
-        while i < words.len() {
-            if ROOM <= len {
-                break;
-            }
-            bytes[len] = words[i];
-            len += 1;
-            i += 1;
-        }
+        bytes[size..len].copy_from_slice(&words[..more]);
         Text { bytes, len }
     }
 
@@ -47,13 +41,13 @@ impl Text {
     pub fn figure(self, words: &[u8], n: u64) -> Text
         ensures { text_of result ≡ clipped (text_of self ++ (words.now ++ decimal n)) }
     {
-        let before = self.words(words);
-        let mut digits = [0u8; 20];
+        let mut digits = [0; 20];
         let k = io::decimal(n, &mut digits);
-        before.words(&digits[..k])
+        self.words(words).words(&digits[..k])
     }
 
     // Writes the text at the front of an output that has room for it, and answers the room that it takes.
+    #[tactic(auto, using(crate::proofs::Laws::as_long), unfolding(crate::specs::Text::put_over))]
     pub fn put(self, out: &mut [u8]) -> usize
         ensures value { result ≡ length (text_of self) }
         ensures out_after { out.new ≡ put_over (text_of self) out.old }
@@ -62,15 +56,15 @@ impl Text {
         if out.len() < n {
             return n;
         }
-        let bytes = self.bytes;
-        out[..n].copy_from_slice(&bytes[..n]);
+        out[..n].copy_from_slice(&self.bytes[..n]);
         n
     }
 
     // How many bytes the text has.
     fn size(self) -> usize
-        ensures { result ≡ length (text_of self) }
+        ensures value { result ≡ length (text_of self) }
+        ensures in_room { result ≤ 160 }
     {
-        if ROOM < self.len { ROOM } else { self.len }
+        self.len.min(ROOM)
     }
 }

@@ -12,7 +12,7 @@ returns-then-bytes-start c = sym (number_empty _ _ c.if-bytes-start.true)
 pub returns-then-byte-lt128 : goal.returns-then-byte-lt128
 returns-then-byte-lt128 c =
     let a = c.args in
-    simp (number_first a.bytes.now a.start (omega arith), lt-ltb _ _ c.if-byte-lt128.true)
+    simp (c.from.ensures, number_first a.bytes.now a.start (omega arith), lt-ltb _ _ c.if-byte-lt128.true)
 
 pub group_below-requires : goal.group_below-requires
 group_below-requires c =

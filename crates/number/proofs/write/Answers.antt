@@ -1,18 +1,17 @@
 -- `number::write` meets its contract: at each turn what is written, the bytes of what is left and what stands after
 -- them are the whole answer.
-use Prim.Native.Nat.{ℕ, suc, ◌+◌, ◌/◌, ◌%◌, ◌^◌, ◌<◌, ◌≤◌}
+use Rattle.std.specs.Prelude.{Result, Ok}
+use Rattle.pixel.specs.declared.error.Error.{Error}
+use Prim.Native.Nat.{ℕ, suc, ◌+◌, ◌/◌, ◌%◌, ◌^◌, ◌<◌, ◌≤◌, ◌-◌}
 use mathlib.Core.Path.{◌≡◌, ap, ◌∙◌}
 use mathlib.Core.List.{List, ◌++◌}
-use native.Mathlib.Nat.{zero-add}
 use native.Mathlib.Numerals.{add-one}
 use native.Mathlib.Omega.{arith}
 use lib.ListN.{length, take, drop, set, length-set}
 use lib.Seq.{take-suc-set, drop-set-lt, append_snoc, set_split}
 use borrow.Author.Tests.{le-leb, lt-leb}
-use Rattle.number.specs.declared.NumberWritten.{NumberWritten}
-use Rattle.number.specs.declared.NumberWritten.TheVariants as written
 use Rattle.number.specs.Seven.{seven_bits, writing_number, written_number}
-use Rattle.number.proofs.Laws.{length_at_least_one, length_at_most_ten, one_byte, first_byte}
+use Rattle.number.proofs.Laws.{length_at_least_one, more_than_one, only_one, one_byte, first_byte}
 use Rattle.number.proofs.write.Invariants.{filled}
 use Rattle.number.proofs.write.Goals as goal
 
@@ -29,9 +28,6 @@ filled_next out at left high fits room =
 filled_last : (out : List ℕ) (at left : ℕ) → left < 128 → at < length out → set out at left ≡ filled out at left
 filled_last out at left low room = rw (one_byte left low, add-one at) (set_split out at left room)
 
-pub len-required-requires : goal.len-required-requires
-len-required-requires c = tt
-
 pub returns-then-out-required : goal.returns-then-out-required
 unfolding writing_number written_number
 returns-then-out-required c =
@@ -39,45 +35,34 @@ returns-then-out-required c =
     let short : length a.out.now < length (seven_bits a.value) = omega arith in
     (rw (lt-leb _ _ short, c.len-required.ensures), rw (lt-leb _ _ short))
 
-pub loop-left-init : goal.loop-left-init
-loop-left-init c = (omega arith, omega arith, omega arith, rw zero-add)
+pub overflow_sub-last : goal.overflow_sub-last
+overflow_sub-last c = omega (arith, length_at_least_one c.args.value)
 
-pub overflow_add-out : goal.overflow_add-out
-overflow_add-out c = omega arith
-
-pub overflow_cast-out : goal.overflow_cast-out
-overflow_cast-out c = omega arith
-
-pub bounds-out-at : goal.bounds-out-at
-bounds-out-at c = omega (arith, length_at_least_one c.loop-left.left)
-
-pub overflow_add-at : goal.overflow_add-at
-overflow_add-at c = omega (arith, length_at_most_ten c.args.value)
-
-pub loop-left-smaller : goal.loop-left-smaller
-loop-left-smaller c = omega arith
-
-pub loop-left-preserved : goal.loop-left-preserved
-loop-left-preserved c =
-    let l = c.loop-left in
-    let e = ap length (first_byte l.left (omega arith) (omega arith)) in
-    (omega arith, omega arith, simp length-set (omega arith), filled_next l.out l.at l.left (omega arith) (omega arith) (omega arith) ∙ l.invariant.3)
+pub loop-at-preserved : goal.loop-at-preserved
+loop-at-preserved c =
+    let l = c.loop-at in
+    let high = more_than_one l.left (omega arith) in
+    let e = ap length (first_byte l.left high (omega arith)) in
+    (omega arith, omega arith, simp length-set (omega arith), filled_next l.out l.at l.left high (omega arith) (omega arith) ∙ l.invariant.3)
 
 pub overflow_cast-out-2 : goal.overflow_cast-out-2
-overflow_cast-out-2 c = omega arith
+overflow_cast-out-2 c =
+    let l = c.loop-at in
+    let some = length_at_least_one c.args.value in
+    record { fits = omega (arith, only_one l.left (omega arith) (omega arith)) }
 
-pub bounds-out-at-2 : goal.bounds-out-at-2
-bounds-out-at-2 c = omega (arith, length_at_least_one c.loop-left.left)
-
-pub shape_of-out : goal.shape_of-out
-shape_of-out c = simp length-set (omega arith)
+pub bounds-out-last : goal.bounds-out-last
+bounds-out-last c = omega (arith, length_at_least_one c.args.value)
 
 pub returns : goal.returns
 unfolding writing_number written_number
 returns c =
     let a = c.args in
-    let l = c.loop-left in
-    let room : length (seven_bits a.value) ≤ length a.out.now = omega arith in (
-      rw (le-leb _ _ room) (ap {B = NumberWritten} written.Done (omega arith)),
-      rw (le-leb _ _ room) (filled_last l.out l.at l.left (omega arith) (bounds-out-at-2 c) ∙ l.invariant.3),
+    let l = c.loop-at in
+    let room : length (seven_bits a.value) ≤ length a.out.now = omega arith in
+    let some = length_at_least_one a.value in
+    let end : c.len-required.result - 1 ≡ l.at = omega arith in
+    let low = only_one l.left (omega arith) (omega arith) in (
+      rw (le-leb _ _ room) (ap {B = (Result ℕ Error)} Ok (omega arith)),
+      rw (le-leb _ _ room, end) (filled_last l.out l.at l.left low (omega arith) ∙ l.invariant.3),
     )

@@ -1,4 +1,4 @@
--- What the loop of `write` keeps, and why it ends.
+-- What the loop of `write` keeps.
 use Prim.Native.Nat.{ℕ, ◌+◌, ◌^◌, ◌<◌}
 use mathlib.Core.Path.{◌≡◌}
 use mathlib.Core.List.{List, ◌++◌}
@@ -10,11 +10,8 @@ use Rattle.number.proofs.write.Given as goal
 abbrev pub filled : List ℕ → ℕ → ℕ → List ℕ
 filled out at left = take at out ++ (seven_bits left ++ drop (at + length (seven_bits left)) out)
 
-abbrev pub invariant-loop-left : goal.invariant-loop-left
-invariant-loop-left l = (l.left < 2 ^ 64)
+abbrev pub invariant-loop-at : goal.invariant-loop-at
+invariant-loop-at l = (l.left < 2 ^ 64)
     × (l.at + length (seven_bits l.left) ≡ length (seven_bits l.value))
     × (length l.out ≡ length l.initial.out)
     × (filled l.out l.at l.left ≡ seven_bits l.value ++ drop (length (seven_bits l.value)) l.initial.out)
-
-abbrev pub decreases-loop-left : goal.decreases-loop-left
-decreases-loop-left l = l.left

@@ -3,6 +3,7 @@
 use mathlib.Core.List.{[], ◌∷◌}
 use mathlib.Core.Path.{◌≡◌, refl}
 use Prim.Native.Nat.{ℕ, ◌≤◌}
+use native.Mathlib.Omega.{arith}
 use borrow.Author.Tests.{ne_eqb}
 use lib.Dec.{lit≤}
 use Rattle.text.specs.declared.Text.{Text}
@@ -18,81 +19,81 @@ told :
 told number n a b c none nothing found t room steps =
     rw found (spoken_whole (sentence number a b c) none t room nothing steps)
 
-pub returns-then-number-eq1 : goal.returns-then-number-eq1
+pub returns-in-1 : goal.returns-in-1
 unfolding sentence
-returns-then-number-eq1 c = rw c.if-number-eq1.true c.end.ensures
+returns-in-1 c = rw c.in-1.is c.end.ensures
 
-pub returns-then-number-eq2 : goal.returns-then-number-eq2
+pub returns-in-2 : goal.returns-in-2
 unfolding sentence
-returns-then-number-eq2 c =
-    told 2 c.args.number c.args.a c.args.b c.args.c c.empty-text.result c.empty-text.ensures c.if-number-eq2.true c.figure.result (lit≤ tt) (c.figure.result, c.figure.ensures, refl)
+returns-in-2 c =
+    told 2 c.args.number c.args.a c.args.b c.args.c c.empty-text.result c.empty-text.ensures c.in-2.is c.figure.result (lit≤ tt) (c.figure.result, c.figure.ensures, refl)
 
-pub returns-then-number-eq3 : goal.returns-then-number-eq3
+pub returns-in-3 : goal.returns-in-3
 unfolding sentence
-returns-then-number-eq3 c =
-    told 3 c.args.number c.args.a c.args.b c.args.c c.empty-text.result c.empty-text.ensures c.if-number-eq3.true c.words.result (lit≤ tt) (c.figure-then-number-eq3.result, c.figure-then-number-eq3.ensures, (c.words.result, c.words.ensures, refl))
+returns-in-3 c =
+    told 3 c.args.number c.args.a c.args.b c.args.c c.empty-text.result c.empty-text.ensures c.in-3.is c.words.result (lit≤ tt) (c.figure-in-3.result, c.figure-in-3.ensures, (c.words.result, c.words.ensures, refl))
 
-pub returns-then-number-eq4 : goal.returns-then-number-eq4
+pub returns-in-4 : goal.returns-in-4
 unfolding sentence
-returns-then-number-eq4 c = rw c.if-number-eq4.true c.magic.ensures
+returns-in-4 c = rw c.in-4.is c.magic.ensures
 
-pub returns-then-number-eq5 : goal.returns-then-number-eq5
+pub returns-in-5 : goal.returns-in-5
 unfolding sentence
-returns-then-number-eq5 c =
-    told 5 c.args.number c.args.a c.args.b c.args.c c.empty-text.result c.empty-text.ensures c.if-number-eq5.true c.figure-then-number-eq5-2.result (lit≤ tt) (c.figure-then-number-eq5.result, c.figure-then-number-eq5.ensures, (c.figure-then-number-eq5-2.result, c.figure-then-number-eq5-2.ensures, refl))
+returns-in-5 c =
+    told 5 c.args.number c.args.a c.args.b c.args.c c.empty-text.result c.empty-text.ensures c.in-5.is c.figure-in-5-2.result (lit≤ tt) (c.figure-in-5.result, c.figure-in-5.ensures, (c.figure-in-5-2.result, c.figure-in-5-2.ensures, refl))
 
-pub returns-then-number-eq6 : goal.returns-then-number-eq6
+pub returns-in-6 : goal.returns-in-6
 unfolding sentence
-returns-then-number-eq6 c =
-    told 6 c.args.number c.args.a c.args.b c.args.c c.empty-text.result c.empty-text.ensures c.if-number-eq6.true c.figure-then-number-eq6-3.result (lit≤ tt) (c.figure-then-number-eq6.result, c.figure-then-number-eq6.ensures, (c.figure-then-number-eq6-2.result, c.figure-then-number-eq6-2.ensures, (c.figure-then-number-eq6-3.result, c.figure-then-number-eq6-3.ensures, refl)))
+returns-in-6 c =
+    told 6 c.args.number c.args.a c.args.b c.args.c c.empty-text.result c.empty-text.ensures c.in-6.is c.figure-in-6-3.result (lit≤ tt) (c.figure-in-6.result, c.figure-in-6.ensures, (c.figure-in-6-2.result, c.figure-in-6-2.ensures, (c.figure-in-6-3.result, c.figure-in-6-3.ensures, refl)))
 
-pub returns-then-number-eq7 : goal.returns-then-number-eq7
+pub returns-in-7 : goal.returns-in-7
 unfolding sentence
-returns-then-number-eq7 c =
-    told 7 c.args.number c.args.a c.args.b c.args.c c.empty-text.result c.empty-text.ensures c.if-number-eq7.true c.words-then-number-eq7.result (lit≤ tt) (c.figure-then-number-eq7.result, c.figure-then-number-eq7.ensures, (c.figure-then-number-eq7-2.result, c.figure-then-number-eq7-2.ensures, (c.words-then-number-eq7.result, c.words-then-number-eq7.ensures, refl)))
+returns-in-7 c =
+    told 7 c.args.number c.args.a c.args.b c.args.c c.empty-text.result c.empty-text.ensures c.in-7.is c.words-in-7.result (lit≤ tt) (c.figure-in-7.result, c.figure-in-7.ensures, (c.figure-in-7-2.result, c.figure-in-7-2.ensures, (c.words-in-7.result, c.words-in-7.ensures, refl)))
 
-pub returns-then-number-eq8 : goal.returns-then-number-eq8
+pub returns-in-8 : goal.returns-in-8
 unfolding sentence
-returns-then-number-eq8 c =
-    told 8 c.args.number c.args.a c.args.b c.args.c c.empty-text.result c.empty-text.ensures c.if-number-eq8.true c.words-then-number-eq8.result (lit≤ tt) (c.words-then-number-eq8.result, c.words-then-number-eq8.ensures, refl)
+returns-in-8 c =
+    told 8 c.args.number c.args.a c.args.b c.args.c c.empty-text.result c.empty-text.ensures c.in-8.is c.words-in-8.result (lit≤ tt) (c.words-in-8.result, c.words-in-8.ensures, refl)
 
-pub returns-then-number-eq9 : goal.returns-then-number-eq9
+pub returns-in-9 : goal.returns-in-9
 unfolding sentence
-returns-then-number-eq9 c = rw c.if-number-eq9.true c.bad.ensures
+returns-in-9 c = rw c.in-9.is c.bad.ensures
 
-pub returns-then-number-eq10 : goal.returns-then-number-eq10
+pub returns-in-10 : goal.returns-in-10
 unfolding sentence
-returns-then-number-eq10 c =
-    told 10 c.args.number c.args.a c.args.b c.args.c c.empty-text.result c.empty-text.ensures c.if-number-eq10.true c.words-then-number-eq10.result (lit≤ tt) (c.words-then-number-eq10.result, c.words-then-number-eq10.ensures, refl)
+returns-in-10 c =
+    told 10 c.args.number c.args.a c.args.b c.args.c c.empty-text.result c.empty-text.ensures c.in-10.is c.words-in-10.result (lit≤ tt) (c.words-in-10.result, c.words-in-10.ensures, refl)
 
-pub returns-then-number-eq11 : goal.returns-then-number-eq11
+pub returns-in-11 : goal.returns-in-11
 unfolding sentence
-returns-then-number-eq11 c =
-    told 11 c.args.number c.args.a c.args.b c.args.c c.empty-text.result c.empty-text.ensures c.if-number-eq11.true c.words-then-number-eq11.result (lit≤ tt) (c.words-then-number-eq11.result, c.words-then-number-eq11.ensures, refl)
+returns-in-11 c =
+    told 11 c.args.number c.args.a c.args.b c.args.c c.empty-text.result c.empty-text.ensures c.in-11.is c.words-in-11.result (lit≤ tt) (c.words-in-11.result, c.words-in-11.ensures, refl)
 
-pub returns-then-number-eq12 : goal.returns-then-number-eq12
+pub returns-in-12 : goal.returns-in-12
 unfolding sentence
-returns-then-number-eq12 c =
-    told 12 c.args.number c.args.a c.args.b c.args.c c.empty-text.result c.empty-text.ensures c.if-number-eq12.true c.figure-then-number-eq12.result (lit≤ tt) (c.figure-then-number-eq12.result, c.figure-then-number-eq12.ensures, refl)
+returns-in-12 c =
+    told 12 c.args.number c.args.a c.args.b c.args.c c.empty-text.result c.empty-text.ensures c.in-12.is c.figure-in-12.result (lit≤ tt) (c.figure-in-12.result, c.figure-in-12.ensures, refl)
 
-pub returns-then-number-eq19 : goal.returns-then-number-eq19
+pub returns-in-19 : goal.returns-in-19
 unfolding sentence
-returns-then-number-eq19 c =
-    told 19 c.args.number c.args.a c.args.b c.args.c c.empty-text.result c.empty-text.ensures c.if-number-eq19.true c.words-then-number-eq19.result (lit≤ tt) (c.figure-then-number-eq19.result, c.figure-then-number-eq19.ensures, (c.words-then-number-eq19.result, c.words-then-number-eq19.ensures, refl))
+returns-in-19 c =
+    told 19 c.args.number c.args.a c.args.b c.args.c c.empty-text.result c.empty-text.ensures c.in-19.is c.words-in-19.result (lit≤ tt) (c.figure-in-19.result, c.figure-in-19.ensures, (c.words-in-19.result, c.words-in-19.ensures, refl))
 
-pub returns-then-number-eq20 : goal.returns-then-number-eq20
+pub returns-in-20 : goal.returns-in-20
 unfolding sentence
-returns-then-number-eq20 c =
-    told 20 c.args.number c.args.a c.args.b c.args.c c.empty-text.result c.empty-text.ensures c.if-number-eq20.true c.words-then-number-eq20.result (lit≤ tt) (c.figure-then-number-eq20.result, c.figure-then-number-eq20.ensures, (c.figure-then-number-eq20-2.result, c.figure-then-number-eq20-2.ensures, (c.words-then-number-eq20.result, c.words-then-number-eq20.ensures, refl)))
+returns-in-20 c =
+    told 20 c.args.number c.args.a c.args.b c.args.c c.empty-text.result c.empty-text.ensures c.in-20.is c.words-in-20.result (lit≤ tt) (c.figure-in-20.result, c.figure-in-20.ensures, (c.figure-in-20-2.result, c.figure-in-20-2.ensures, (c.words-in-20.result, c.words-in-20.ensures, refl)))
 
-pub returns-then-number-eq21 : goal.returns-then-number-eq21
+pub returns-in-21 : goal.returns-in-21
 unfolding sentence
-returns-then-number-eq21 c =
-    told 21 c.args.number c.args.a c.args.b c.args.c c.empty-text.result c.empty-text.ensures c.if-number-eq21.true c.words-then-number-eq21.result (lit≤ tt) (c.figure-then-number-eq21.result, c.figure-then-number-eq21.ensures, (c.words-then-number-eq21.result, c.words-then-number-eq21.ensures, refl))
+returns-in-21 c =
+    told 21 c.args.number c.args.a c.args.b c.args.c c.empty-text.result c.empty-text.ensures c.in-21.is c.words-in-21.result (lit≤ tt) (c.figure-in-21.result, c.figure-in-21.ensures, (c.words-in-21.result, c.words-in-21.ensures, refl))
 
-pub returns : goal.returns
+pub returns-in_default : goal.returns-in_default
 unfolding sentence
-returns c =
+returns-in_default c =
     let number = c.args.number in
-    rw (ne_eqb number 1 c.if-number-eq1.false, ne_eqb number 2 c.if-number-eq2.false, ne_eqb number 3 c.if-number-eq3.false, ne_eqb number 4 c.if-number-eq4.false, ne_eqb number 5 c.if-number-eq5.false, ne_eqb number 6 c.if-number-eq6.false, ne_eqb number 7 c.if-number-eq7.false, ne_eqb number 8 c.if-number-eq8.false, ne_eqb number 9 c.if-number-eq9.false, ne_eqb number 10 c.if-number-eq10.false, ne_eqb number 11 c.if-number-eq11.false, ne_eqb number 12 c.if-number-eq12.false, ne_eqb number 19 c.if-number-eq19.false, ne_eqb number 20 c.if-number-eq20.false, ne_eqb number 21 c.if-number-eq21.false)
-    (spoken_whole (figure "unknown refusal: " number ∷ []) c.empty-text.result c.figure-2.result (lit≤ tt) c.empty-text.ensures (c.figure-2.result, c.figure-2.ensures, refl))
+    rw (ne_eqb number 1 (omega arith), ne_eqb number 2 (omega arith), ne_eqb number 3 (omega arith), ne_eqb number 4 (omega arith), ne_eqb number 5 (omega arith), ne_eqb number 6 (omega arith), ne_eqb number 7 (omega arith), ne_eqb number 8 (omega arith), ne_eqb number 9 (omega arith), ne_eqb number 10 (omega arith), ne_eqb number 11 (omega arith), ne_eqb number 12 (omega arith), ne_eqb number 19 (omega arith), ne_eqb number 20 (omega arith), ne_eqb number 21 (omega arith))
+    (spoken_whole (figure "unknown refusal: " number ∷ []) c.empty-text.result c.figure-in_default.result (lit≤ tt) c.empty-text.ensures (c.figure-in_default.result, c.figure-in_default.ensures, refl))

@@ -13,6 +13,6 @@ returns c = let d = c.decimal-k in
     let a = c.args in
     let fewest = d.ensures.len in
     let same = d.ensures.digits ∙ fewest_digits 20 a.n _ (twenty_hold a.n _ (omega arith) fewest) fewest in
-    grown c.words-before.result c.words.result (text_of a.self ++ a.words.now) (decimal a.n) c.words-before.ensures
-    (c.words.ensures ∙ ap (λ (r : List ℕ). clipped (text_of c.words-before.result ++ r)) same)
+    grown c.words.result c.words-2.result (text_of a.self ++ a.words.now) (decimal a.n) c.words.ensures
+    (c.words-2.ensures ∙ ap (λ (r : List ℕ). clipped (text_of c.words.result ++ r)) same)
     ∙ ap clipped (append_assoc (text_of a.self) a.words.now (decimal a.n))

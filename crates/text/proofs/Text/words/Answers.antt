@@ -1,27 +1,23 @@
--- `text::Text::words` meets its contract: at each turn the text so far and the words left are the text to be.
+-- `text::Text::words` meets its contract: the bytes copied are those for which there is room.
 -- Assumes nothing.
-use mathlib.Core.Path.{refl, sym, ◌∙◌, ap}
-use borrow.Author.Rules.{rules}
-use lib.ListN.{length-set, drop_of_length-le}
-use Rattle.text.specs.Text.{clipped}
-use Rattle.text.proofs.Laws.{ended, full, one_more}
+use Rattle.std.specs.Prelude.{min}
+use Rattle.std.proofs.Common.{◌≡◌, ℕ, ◌+◌, ◌-◌, ◌++◌, length, take, arith, rules, ◌∙◌, ap, ap₂}
+use Rattle.std.proofs.lemmas.List.{length-take-le}
+use Rattle.std.proofs.lemmas.Slice.{take-put_mid}
+use Rattle.text.specs.Text.{text_of}
+use Rattle.text.proofs.Laws.{as_long, added}
 use Rattle.text.proofs.Text.words.Goals as goal
 
-pub loop-i-init : goal.loop-i-init
-loop-i-init c = (search rules, refl)
-
-pub loop-i-preserved : goal.loop-i-preserved
-loop-i-preserved c = let l = c.loop-i in
-    let a = c.args in (
-      length-set l.bytes l.len _ ∙ l.invariant.0,
-      ap clipped (one_more l.bytes l.len l.invariant.0 c.if-len-ge-ROOM.false a.words.now l.i c.loop-i-test.true) ∙ l.invariant.1,
-    )
-
-pub returns-after-loop-i : goal.returns-after-loop-i
-returns-after-loop-i c = let l = c.loop-i in
-    let none = drop_of_length-le c.args.words.now c.loop-i-test.false in
-    sym (ended l.bytes l.len l.invariant.0) ∙ rw none at l.invariant.1
-
-pub returns-then-len-ge-ROOM : goal.returns-then-len-ge-ROOM
-returns-then-len-ge-ROOM c = let l = c.loop-i in
-    sym (full l.bytes l.len l.invariant.0 c.if-len-ge-ROOM.true _) ∙ l.invariant.1
+pub returns : goal.returns
+returns c =
+    let self = c.args.self in
+    let words = c.args.words.now in
+    let size = c.size-size in
+    let more = c.min-more.result in
+    let room : length self.bytes ≡ 160 = search rules in
+    let copied : c.copy_from_slice.new.self ≡ take more words = c.copy_from_slice.ensures.after in
+    let long = ap length copied ∙ length-take-le more words (omega arith) in
+    let free = c.min-more.ensures ∙ ap (λ (n : ℕ). min (length words) (160 - n)) size.ensures.value in
+    take-put_mid size.result _ self.bytes _ (size.result + more) (omega arith) (omega arith)
+    ∙ ap₂ ◌++◌ (rw size.ensures.value (as_long self.len self.bytes)) (copied ∙ ap (λ (n : ℕ). take n words) free)
+    ∙ added (text_of self) words (omega arith)
