@@ -14,11 +14,12 @@ ghost use Rattle.chunk.specs.Found.{found_of, chunk_of, ending_at};
 use pixel::consts::{
     QOI_OP_DIFF, QOI_OP_LUMA, QOI_OP_RGB, QOI_OP_RGBA, QOI_OP_RUN, QOI_PADDING, QOI_PADDING_SIZE,
 };
+use pixel::error::Error;
 use pixel::packed;
 use pixel::types::Channels;
 
 // A chunk that makes its pixel from the one before it, and is stored.
-#[derive(Clone, Copy)]
+#[derive(Clone, Copy, Debug, PartialEq, Eq, Hash)]
 pub enum Colour {
     // Red, green and blue difference, each plus 2.
     Diff(u8, u8, u8),
@@ -30,11 +31,9 @@ pub enum Colour {
     Stuck,
 }
 
-// What a part of a message starts with.
-#[derive(Clone, Copy)]
+// A chunk that a part of a message starts with.
+#[derive(Clone, Copy, Debug, PartialEq, Eq, Hash)]
 pub enum Found {
-    // A chunk whose bytes are not all there.
-    Cut,
     // The pixel of that slot.
     Index(u8),
     // The previous pixel, that number of times.
@@ -42,104 +41,63 @@ pub enum Found {
     Colour(Colour),
 }
 
-// The chunk that a part starts with, in a source of these channels.
-pub fn read(source: Channels, part: &[u8]) -> Found
+// The chunk that a part starts with, in a source of these channels; none where its bytes are not all there.
+pub fn read(source: Channels, part: &[u8]) -> Option<Found>
     ensures { found_of result ≡ chunk_at (decoder_reads_rgba (channels_number source)) part.now }
 {
-    if part.len() == 0 {
-        return Found::Cut;
+    let (&byte, rest) = part.split_first()?;
+    match byte {
+        ..QOI_OP_DIFF => Some(Found::Index(byte)),
+        QOI_OP_DIFF..QOI_OP_LUMA => Some(Found::Colour(Colour::Diff(
+            byte / 16 % 4,
+            byte / 4 % 4,
+            byte % 4,
+        ))),
+        QOI_OP_LUMA..QOI_OP_RUN => match rest {
+            [second, ..] => Some(Found::Colour(Colour::Luma(byte % 64, second / 16, second % 16))),
+            _ => None,
+        },
+        QOI_OP_RGB => match rest {
+            [r, g, b, ..] => Some(Found::Colour(Colour::Rgb(*r, *g, *b))),
+            _ => None,
+        },
+        QOI_OP_RGBA => match (source, rest) {
+            (Channels::Rgba, [r, g, b, a, ..]) => Some(Found::Colour(Colour::Rgba(*r, *g, *b, *a))),
+            (Channels::Rgb, [_, _, _, _, _, _, _, ..]) => Some(Found::Colour(Colour::Stuck)),
+            _ => None,
+        },
+        QOI_OP_RUN.. => Some(Found::Run(byte % 64 + 1)),
     }
-    let byte = part[0];
-    if byte < QOI_OP_DIFF {
-        return Found::Index(byte);
-    }
-    if byte == QOI_OP_RGBA {
-        match source {
-            Channels::Rgba => {
-                if part.len() < 5 {
-                    return Found::Cut;
-                }
-                return Found::Colour(Colour::Rgba(part[1], part[2], part[3], part[4]));
-            }
-            Channels::Rgb => {
-                if part.len() < 8 {
-                    return Found::Cut;
-                }
-                return Found::Colour(Colour::Stuck);
-            }
-        }
-    }
-    if byte == QOI_OP_RGB {
-        if part.len() < 4 {
-            return Found::Cut;
-        }
-        return Found::Colour(Colour::Rgb(part[1], part[2], part[3]));
-    }
-    if byte < QOI_OP_LUMA {
-        return Found::Colour(Colour::Diff(byte / 16 % 4, byte / 4 % 4, byte % 4));
-    }
-    if byte < QOI_OP_RUN {
-        if part.len() < 2 {
-            return Found::Cut;
-        }
-        let second = part[1];
-        return Found::Colour(Colour::Luma(byte % 64, second / 16, second % 16));
-    }
-    Found::Run(byte % 64 + 1)
 }
 
-// What follows the last pixel: the marker, other bytes, or too few.
-#[derive(Clone, Copy)]
-pub enum Ending {
-    Cut,
-    Wrong,
-    Marker,
-}
-
-// The marker test of a part.
-pub fn read_end(part: &[u8]) -> Ending
+// The marker test of a part, which is what follows the last pixel: 1 for too few bytes, 8 for others than the marker's.
+pub fn read_end(part: &[u8]) -> Result<(), Error>
     ensures { result ≡ ending_at part.now }
 {
-    if part.len() < QOI_PADDING_SIZE {
-        return Ending::Cut;
-    }
-    if is_marker(part) {
-        Ending::Marker
+    let Some((first, _)) = part.split_first_chunk::<QOI_PADDING_SIZE>() else {
+        return Err(Error::UnexpectedBufferEnd { at: 0 });
+    };
+    if *first == QOI_PADDING {
+        Ok(())
     } else {
-        Ending::Wrong
+        Err(Error::InvalidPadding)
     }
-}
-
-// Whether the first eight bytes are the marker's. It does not stop at one that differs: the decode's loops, which it is
-// compiled together with, would be slower.
-fn is_marker(part: &[u8]) -> bool
-    requires { 8 ≤ length part.now }
-    ensures { result ≡ same_bytes (take 8 part.now) marker }
-{
-    let mut same = true;
-    for i in 0..QOI_PADDING_SIZE {
-        if part[i] != QOI_PADDING[i] {
-            same = false;
-        }
-    }
-    same
 }
 
 // The alpha that a chunk of colour leaves.
+#[tactic(auto, unfolding(rules::specs::Chunk::colour_of))]
 pub fn alpha(previous: u8, colour: Colour) -> u8
     ensures { result ≡ alpha_of (colour_of [] (with_alpha clear_pixel previous) (chunk_of colour)) }
 {
     match colour {
-        Colour::Diff(_, _, _) => previous,
-        Colour::Luma(_, _, _) => previous,
-        Colour::Rgb(_, _, _) => previous,
-        Colour::Rgba(_, _, _, a) => a,
-        Colour::Stuck => previous,
+        Colour::Rgba(.., a) => a,
+        Colour::Diff(..) | Colour::Luma(..) | Colour::Rgb(..) | Colour::Stuck => previous,
     }
 }
 
 // The packed pixel of the colour that a chunk makes of the previous one, with the alpha that is handed in: a loop
 // that took it out of each pixel would wait for it.
+#[tactic(auto, unfolding(rules::specs::Chunk::colour_of, pixel::specs::Packed::unpacked))]
 pub fn recolour(previous: u32, alpha: u8, colour: Colour) -> u32
     ensures { unpacked result ≡ with_alpha (colour_of [] (unpacked previous) (chunk_of colour)) alpha }
 {
@@ -147,22 +105,21 @@ pub fn recolour(previous: u32, alpha: u8, colour: Colour) -> u32
         Colour::Diff(r, g, b) => shifted(
             previous,
             alpha,
-            pixel::wrapped_difference(r, 2),
-            pixel::wrapped_difference(g, 2),
-            pixel::wrapped_difference(b, 2),
+            r.wrapping_sub(2),
+            g.wrapping_sub(2),
+            b.wrapping_sub(2),
         ),
         Colour::Luma(g, r, b) => {
-            let near = pixel::wrapped_difference(g, 40);
+            let near = g.wrapping_sub(40);
             shifted(
                 previous,
                 alpha,
-                pixel::wrapped_sum(near, r),
-                pixel::wrapped_difference(g, 32),
-                pixel::wrapped_sum(near, b),
+                near.wrapping_add(r),
+                g.wrapping_sub(32),
+                near.wrapping_add(b),
             )
         }
-        Colour::Rgb(r, g, b) => packed::pack(r, g, b, alpha),
-        Colour::Rgba(r, g, b, _) => packed::pack(r, g, b, alpha),
+        Colour::Rgb(r, g, b) | Colour::Rgba(r, g, b, _) => packed::pack(r, g, b, alpha),
         Colour::Stuck => packed::pack(
             packed::red(previous),
             packed::green(previous),
@@ -173,26 +130,28 @@ pub fn recolour(previous: u32, alpha: u8, colour: Colour) -> u32
 }
 
 // How many bytes of the message a chunk of colour takes.
+#[tactic(auto, unfolding(rules::specs::Chunk::size_of))]
 pub fn size(colour: Colour) -> usize
     ensures { result ≡ size_of (chunk_of colour) }
 {
     match colour {
-        Colour::Diff(_, _, _) => 1,
-        Colour::Luma(_, _, _) => 2,
-        Colour::Rgb(_, _, _) => 4,
-        Colour::Rgba(_, _, _, _) => 5,
+        Colour::Diff(..) => 1,
+        Colour::Luma(..) => 2,
+        Colour::Rgb(..) => 4,
+        Colour::Rgba(..) => 5,
         Colour::Stuck => 0,
     }
 }
 
 // A packed pixel with this alpha and a difference added to each colour.
+#[tactic(auto, unfolding(pixel::specs::Packed::unpacked))]
 fn shifted(p: u32, a: u8, r: u8, g: u8, b: u8) -> u32
     ensures { unpacked result ≡ shifted_by (with_alpha (unpacked p) a) r g b }
 {
     packed::pack(
-        pixel::wrapped_sum(packed::red(p), r),
-        pixel::wrapped_sum(packed::green(p), g),
-        pixel::wrapped_sum(packed::blue(p), b),
+        packed::red(p).wrapping_add(r),
+        packed::green(p).wrapping_add(g),
+        packed::blue(p).wrapping_add(b),
         a,
     )
 }

@@ -5,10 +5,9 @@ use mathlib.Core.List.{[], ◌∷◌}
 use Prim.Native.Nat.{ℕ, ◌+◌, ◌*◌, ◌/◌, ◌%◌, ◌<◌}
 use native.Mathlib.Nat.{add-mul-mod_self_left}
 use native.Mathlib.Omega.{arith}
-use Rattle.pixel.specs.declared.Pixel.{Pixel}
 use Rattle.pixel.specs.Colour.{pixel_of, wrapped_sum, wrapped_difference}
 use Rattle.walk.specs.declared.lanes.Lanes.{Lanes}
-use Rattle.walk.specs.Lanes.{pixel_in, Narrow, Holds}
+use Rattle.walk.specs.Lanes.{pixel_in}
 
 -- two numbers 16 bits apart come apart again
 low : (x y : ℕ) → x < 256 → (x + y * 65536) % 65536 ≡ x
@@ -19,22 +18,15 @@ high x y h = omega arith
 
 -- lanes that are made of four bytes are that pixel
 pub made :
-    (l : Lanes) (r g b a : ℕ) → r < 256 → g < 256 → b < 256 → a < 256 → l.even ≡ r + b * 65536 → l.odd ≡ g + a * 65536
-    → Holds l (pixel_of r g b a)
+    (l : Lanes) (r g b a : ℕ) → r < 256 → g < 256 → l.even ≡ r + b * 65536 → l.odd ≡ g + a * 65536
+    → pixel_in l ≡ pixel_of r g b a
 unfolding pixel_in
-made l r g b a hr hg hb ha even odd =
+made l r g b a hr hg even odd =
     let red : l.even % 65536 ≡ r = ap (λ (n : ℕ). n % 65536) even ∙ low r b hr in
     let green : l.odd % 65536 ≡ g = ap (λ (n : ℕ). n % 65536) odd ∙ low g a hg in
     let blue : l.even / 65536 ≡ b = ap (λ (n : ℕ). n / 65536) even ∙ high r b hr in
     let alpha : l.odd / 65536 ≡ a = ap (λ (n : ℕ). n / 65536) odd ∙ high g a hg in
-    record {
-      narrow = record { red = omega arith; green = omega arith; blue = omega arith; alpha = omega arith };
-      is = λ i. record { rgba = red i ∷ green i ∷ blue i ∷ alpha i ∷ [] };
-    }
-
--- lanes that are a pixel are also what that pixel is
-pub also : {l : Lanes} {p q : Pixel} → Holds l p → p ≡ q → Holds l q
-also h e = record { narrow = h.narrow; is = h.is ∙ e }
+    λ i. record { rgba = red i ∷ green i ∷ blue i ∷ alpha i ∷ [] }
 
 -- both channels of a number modulo 256
 abbrev pub wrapped_of : ℕ → ℕ
@@ -51,20 +43,19 @@ added n r b hn hr =
 
 -- two sums add to the three colours, and alpha stays
 pub shifted_by :
-    (l m : Lanes) (r g b : ℕ) → Narrow l → r < 32768 → g < 32768 → m.even ≡ wrapped_of (l.even + (r + b * 65536))
+    (l m : Lanes) (r g b : ℕ) → r < 32768 → g < 32768 → m.even ≡ wrapped_of (l.even + (r + b * 65536))
     → m.odd ≡ wrapped_of (l.odd + g)
-    → Holds m
-    (pixel_of (wrapped_sum (l.even % 65536) r) (wrapped_sum (l.odd % 65536) g) (wrapped_sum (l.even / 65536) b)
-    (l.odd / 65536))
-shifted_by l m r g b narrow hr hg even odd =
+    → pixel_in m
+    ≡ pixel_of (wrapped_sum (l.even % 65536) r) (wrapped_sum (l.odd % 65536) g) (wrapped_sum (l.even / 65536) b)
+    (l.odd / 65536)
+shifted_by l m r g b hr hg even odd =
     let none : l.odd + g ≡ l.odd + (g + 0 * 65536) = omega arith in
     let kept : (l.odd / 65536 + 0) % 256 ≡ l.odd / 65536 = omega arith in
     let alone : wrapped_of (l.odd + g) ≡ (l.odd % 65536 + g) % 256 + l.odd / 65536 * 65536 =
-    ap wrapped_of none ∙ added l.odd g 0 narrow.green hg
+    ap wrapped_of none ∙ added l.odd g 0 l.green hg
     ∙ ap (λ (n : ℕ). (l.odd % 65536 + g) % 256 + n * 65536) kept in
     made m (wrapped_sum (l.even % 65536) r) (wrapped_sum (l.odd % 65536) g) (wrapped_sum (l.even / 65536) b)
-    (l.odd / 65536) (omega arith) (omega arith) (omega arith) narrow.alpha
-    (even ∙ added l.even r b narrow.red hr) (odd ∙ alone)
+    (l.odd / 65536) (omega arith) (omega arith) (even ∙ added l.even r b l.red hr) (odd ∙ alone)
 
 -- to take a number off a channel is to add what it lacks to 256
 pub less_2 : (x d : ℕ) → (x + (d + 254)) % 256 ≡ wrapped_sum x (wrapped_difference d 2)

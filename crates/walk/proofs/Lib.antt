@@ -4,5 +4,5 @@ pub mod LanesLaws
 pub mod Loop
 pub mod Packed
 pub mod Pasting
-pub mod Quick
+pub mod QuickLaws
 pub mod Reach

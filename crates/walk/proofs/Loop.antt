@@ -1,14 +1,15 @@
 -- One chunk of a walk, for every number of wanted channels; the careful loop over them: what holds at its head, what a
 -- chunk makes of it, and how it ends.
 -- Assumes nothing.
+use Rattle.std.specs.Prelude.{Option, Some, None}
 use mathlib.Core.Path.{◌≡◌, refl, sym, subst, ◌∙◌, ap, ap₂}
 use mathlib.Core.Bool.{true, cond}
-use mathlib.Core.List.{List, [], map}
+use mathlib.Core.List.{List, []}
 use Prim.Native.Nat.{ℕ, zero, suc, ◌+◌, ◌-◌, ◌*◌, ◌≤◌, ◌<◌, min}
 use native.Mathlib.Nat.{add-mul, mul-le-mul_right}
 use native.Mathlib.Omega.{arith}
 use borrow.Author.Tests.{lt-ltb, le-ltb}
-use lib.ListN.{length, get_or, take, drop, set, length-drop, length-map}
+use lib.ListN.{length, get_or, take, drop, set, length-drop}
 use lib.Seq.{length-take-le}
 use Rattle.pixel.specs.declared.Pixel.{Pixel}
 use Rattle.pixel.specs.declared.types.Channels.{Channels}
@@ -29,28 +30,20 @@ use Rattle.chunk.specs.declared.Found.{Found}
 use Rattle.chunk.specs.declared.Found.TheVariants as found
 use Rattle.chunk.specs.Found.{found_of, chunk_of}
 use Rattle.walk.specs.Walking.{walking, standing, stopped}
-use Rattle.walk.specs.Asked.{Of, three_bytes, four_bytes}
-
--- an array's length is that of what its elements are mapped to
-pub unmapped : {X Y : Type 0} (f : X → Y) (l : List X) (n : ℕ) → length (map f l) ≡ n → length l ≡ n
-unmapped f l n e = sym (length-map l f) ∙ e
+use Rattle.walk.specs.Asked.{Of, bytes_in}
 
 -- the place that the loop's locals are
 abbrev pub place_at : ℕ → ℕ → Pixel → List Pixel → Place
 place_at at pixel current slots = record { at = at; pixel = pixel; current = current; slots = slots }
 
--- a packed pixel has four bytes, and the first of them are those that are written
-four_long : (q : ℕ) → length (unpacked q).rgba ≡ 4
+-- a packed pixel has four bytes
+pub four_long : (q : ℕ) → length (unpacked q).rgba ≡ 4
 unfolding unpacked
 four_long q = refl
 
-pub three_bytes_lem : (q : ℕ) → three_bytes (unpacked q) ≡ take 3 (unpacked q).rgba
-unfolding unpacked
-three_bytes_lem q = refl
-
-pub four_bytes_lem : (q : ℕ) → four_bytes (unpacked q) ≡ take 4 (unpacked q).rgba
-unfolding unpacked
-four_bytes_lem q = refl
+-- and of them as many are written as there are channels wanted
+pub bytes_long : {channels : ℕ} → channels ≤ 4 → (q : ℕ) → length (bytes_in channels (unpacked q)) ≡ channels
+bytes_long {channels} few q = length-take-le channels (unpacked q).rgba (rw (four_long q) few)
 
 -- a chunk of colour brings one pixel whatever the slots hold, and stores it
 colour_alone : (slots : List Pixel) (p : Pixel) (c : Colour) → colour_of slots p (chunk_of c) ≡ colour_of [] p (chunk_of c)
@@ -198,12 +191,12 @@ module _ {wanted : ℕ} {message : List ℕ} {source : Channels} {missing : ℕ}
   abbrev Again : List ℕ → List Pixel → Pixel → ℕ → ℕ → ℕ → ℕ → Type 0
   Again = Head wanted message source missing first steps out₀
 
-  abbrev Holds : Found → Type 0
+  abbrev Holds : Option Found → Type 0
   Holds r = chunk_at (decoder_reads_rgba (channels_number source)) (drop at message) ≡ found_of r
 
   -- what the reader found at this place
   pub finds :
-      (r r' : Found)
+      (r r' : Option Found)
       → found_of r ≡ chunk_at (decoder_reads_rgba (channels_number source)) (take (length message - at) (drop at message)) → r ≡ r'
       → Holds r'
   finds r r' e told = rw (← whole_tail message at) (sym e ∙ ap found_of told)
@@ -211,19 +204,15 @@ module _ {wanted : ℕ} {message : List ℕ} {source : Channels} {missing : ℕ}
   sound_here : (k : Chunk) → chunk_at (decoder_reads_rgba (channels_number source)) (drop at message) ≡ chunk k → Sound (drop at message) k
   sound_here k f = sound_of (rw f at (sound_found (decoder_reads_rgba (channels_number source)) (drop at message)))
 
-  pub index_within : (slot : ℕ) → Holds (found.Index slot) → slot < 64
+  pub index_within : (slot : ℕ) → Holds (Some (found.Index slot)) → slot < 64
   index_within slot f = (sound_here (INDEX slot) f).slot
 
-  pub run_some : (times n : ℕ) → Holds (found.Run times) → done < bound → n ≡ min times (missing - done) → 1 ≤ n
+  pub run_some : (times n : ℕ) → Holds (Some (found.Run times)) → done < bound → n ≡ min times (missing - done) → 1 ≤ n
   unfolding times_of
   run_some times n f turn often = omega (arith, (sound_here (RUN times) f).once, often, h.bounded)
 
-  pub colour_within : (c : Colour) → Holds (found.Colour c) → at + size_of (chunk_of c) ≤ length message
+  pub colour_within : (c : Colour) → Holds (Some (found.Colour c)) → at + size_of (chunk_of c) ≤ length message
   colour_within c f = omega (arith, h.inside, simp length-drop at (sound_here (chunk_of c) f).fits)
-
-  -- a run moves the limit on by little
-  pub run_fits : (times n : ℕ) → n ≡ min times (missing - done) → limit + (n - 1) ≤ 2000000000
-  run_fits times n often = omega (arith, h.limited, h.within, h.small, often)
 
   -- the loop ends: none is left, or no pixel is missing
   pub ends_bound :
@@ -247,16 +236,9 @@ module _ {wanted : ℕ} {message : List ℕ} {source : Channels} {missing : ℕ}
         upto_missing : (n : ℕ) → n ≤ missing - done → done + n ≤ missing
         upto_missing n few = omega (arith, left_here)
 
-    -- room for one, after which less is missing
-    pub room_for_one : (1 ≤ 1) × (done * wanted + 1 * wanted ≤ length out)
-    room_for_one = (omega arith, room_for 1 (omega (arith, left_here)))
-
-    pub less_by_one : missing - (done + 1) < missing - done
-    less_by_one = omega (arith, left_here)
-
     -- a chunk that is cut short
     pub ends_cut :
-        Holds found.Cut → (from : ℕ) (header : Header) → Of source missing from header
+        Holds None → (from : ℕ) (header : Header) → Of source missing from header
         → walking header wanted message from steps (first from) out₀ ≡ stopped (limit - done) (here from) out
     unfolding walking move move_by
     ends_cut f from header of = h.whole from header of ∙ go (limit - done) refl
@@ -290,7 +272,7 @@ module _ {wanted : ℕ} {message : List ℕ} {source : Channels} {missing : ℕ}
     -- what the loop wrote, as a step
     module _ (n q : ℕ) (out' : List ℕ) (written : out' ≡ pasted (done * wanted) (repeated n (take wanted (unpacked q).rgba)) out) where
       pub after_index :
-          (slot : ℕ) → Holds (found.Index slot) → n ≡ 1 → unpacked q ≡ decoder_keeps wanted (get_or slots slot clear_pixel)
+          (slot : ℕ) → Holds (Some (found.Index slot)) → n ≡ 1 → unpacked q ≡ decoder_keeps wanted (get_or slots slot clear_pixel)
           → Again out' slots (unpacked q) (at + 1) (done + 1) limit bound
       unfolding colour_of times_of size_of decoder_stores
       after_index slot f once is =
@@ -310,7 +292,7 @@ module _ {wanted : ℕ} {message : List ℕ} {source : Channels} {missing : ℕ}
           limit (omega arith) bound h.bounded)
 
       pub after_run :
-          (times : ℕ) → Holds (found.Run times) → n ≡ min times (missing - done) → unpacked q ≡ decoder_keeps wanted current
+          (times : ℕ) → Holds (Some (found.Run times)) → n ≡ min times (missing - done) → unpacked q ≡ decoder_keeps wanted current
           → (limit' : ℕ) → limit' ≡ limit + (n - 1) → (bound' : ℕ) → bound' ≡ min limit' missing
           → Again out' slots (unpacked q) (at + 1) (done + n) limit' bound'
       unfolding colour_of times_of size_of decoder_stores
@@ -330,7 +312,7 @@ module _ {wanted : ℕ} {message : List ℕ} {source : Channels} {missing : ℕ}
           limit' (omega (arith, on, run_some times n f turn often)) bound' bounds
 
       pub after_colour :
-          (c : Colour) → Holds (found.Colour c) → n ≡ 1 → unpacked q ≡ decoder_keeps wanted (colour_of [] current (chunk_of c))
+          (c : Colour) → Holds (Some (found.Colour c)) → n ≡ 1 → unpacked q ≡ decoder_keeps wanted (colour_of [] current (chunk_of c))
           → Again out' (set slots (slot_of (unpacked q)) (unpacked q)) (unpacked q)
           (at + size_of (chunk_of c)) (done + 1) limit bound
       after_colour c f once is =

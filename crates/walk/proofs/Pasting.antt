@@ -6,11 +6,14 @@ use Prim.Native.Nat.{ℕ, zero, suc, ◌+◌, ◌-◌, ◌*◌, ◌≤◌, ◌<�
 use native.Mathlib.Nat.{mul-le-mul_right, zero-add, suc-add}
 use native.Mathlib.Decide.{dec_le}
 use native.Mathlib.Omega.{arith}
+use lib.Dec.{lit≤}
 use lib.ListN.{length}
+use Prim.{tt}
 use Rattle.pixel.specs.Packed.{unpacked}
 use Rattle.rules.specs.Bytes.{pasted, repeated}
 use Rattle.rules.proofs.PastingLaws.{before_pasted, beyond_pasted, length_pasted, pasted_next, pasted_none, repeated_length}
-use Rattle.walk.specs.Asked.{four_bytes, Fills, FillsOnce}
+use Rattle.walk.specs.Asked.{bytes_in, Fills, FillsOnce}
+use Rattle.walk.proofs.Loop.{bytes_long}
 
 -- i times over, then k times
 repeated_add : (i k : ℕ) (bytes : List ℕ) → repeated (i + k) bytes ≡ repeated i bytes ++ repeated k bytes
@@ -58,7 +61,7 @@ module _ (out : List ℕ) (at : ℕ) (bytes : List ℕ) where
   filled_one is = is ∙ ap (λ (l : List ℕ). pasted at l out) (once bytes)
 
   -- the bytes stand j times; a part that is k times, put from the i-th on over those that stand there, makes them n
-  pub refilled :
+  refilled :
       (i j k n : ℕ) {part : List ℕ} → part ≡ repeated k bytes
       → {now then : List ℕ} → Filled j now → then ≡ pasted (at + i * length bytes) part now
       → (i ≤ j) × (j ≤ n) × (i + k ≡ n) × (at + n * length bytes ≤ length out) → Filled n then
@@ -80,24 +83,27 @@ module _ (out : List ℕ) (at : ℕ) (bytes : List ℕ) where
       ∙ pasted_end out at first (repeated (j - i) bytes) (repeated k bytes) (omega arith) (omega arith)
       ∙ ap (λ (l : List ℕ). pasted at l out) whole
 
-  -- the same where the place is counted in bytes
-  pub refilled_from :
-      (from i j k n : ℕ) {part : List ℕ} → part ≡ repeated k bytes
-      → {now then : List ℕ} → Filled j now → then ≡ pasted from part now → from ≡ at + i * length bytes
-      → (i ≤ j) × (j ≤ n) × (i + k ≡ n) × (at + n * length bytes ≤ length out) → Filled n then
-  refilled_from from i j k n {part} times {now} is puts place =
-      refilled i j k n times is (puts ∙ ap (λ (m : ℕ). pasted m part now) place)
+  module _ {size : ℕ} (long : length bytes ≡ size) where
+    -- the same where the place is counted in bytes
+    pub refilled_from :
+        (from i j k n : ℕ) {part : List ℕ} → part ≡ repeated k bytes
+        → {now then : List ℕ} → Filled j now → then ≡ pasted from part now → from ≡ at + i * size
+        → (i ≤ j) × (j ≤ n) × (i + k ≡ n) × (at + n * size ≤ length out) → Filled n then
+    refilled_from from i j k n {part} times {now} is puts place h =
+        let there : from ≡ at + i * length bytes = rw long place in
+        let room : at + n * length bytes ≤ length out = rw long h.3 in
+        refilled i j k n times is (puts ∙ ap (λ (m : ℕ). pasted m part now) there) (h.0, h.1, h.2, room)
 
-  -- the same where the part is the bytes once
-  pub refilled_one :
-      (i j n : ℕ) {now then : List ℕ} → Filled j now → then ≡ pasted (at + i * length bytes) bytes now
-      → (i ≤ j) × (j ≤ n) × (i + 1 ≡ n) × (at + n * length bytes ≤ length out) → Filled n then
-  refilled_one i j n = refilled i j 1 n (once bytes)
+    -- and where the part is the bytes once
+    pub refilled_one :
+        (from i j n : ℕ) {now then : List ℕ} → Filled j now → then ≡ pasted from bytes now → from ≡ at + i * size
+        → (i ≤ j) × (j ≤ n) × (i + 1 ≡ n) × (at + n * size ≤ length out) → Filled n then
+    refilled_one from i j n = refilled_from from i j 1 n (once bytes)
 
 -- nothing filled
 pub fills_none : (p at end : ℕ) (out : List ℕ) → at ≤ end → Fills p at end out at out
 fills_none p at end out h =
-    let filled = filled_none out at (four_bytes (unpacked p)) 0 (omega arith) in
+    let filled = filled_none out at (bytes_in 4 (unpacked p)) 0 (omega arith) in
     record { times = 0; on = omega arith; within = h; filled = filled }
 
 -- two fills, the second from where the first ends
@@ -108,16 +114,16 @@ pub fills_on :
 fills_on {p} {at} {from = from} {out = out} further f g h =
     let i = f.times in
     let n = i + g.times in
-    let bytes = four_bytes (unpacked p) in
-    let whole = refilled_from out at bytes from i i _ n refl f.filled g.filled (omega arith) (omega arith) in
+    let bytes = bytes_in 4 (unpacked p) in
+    let whole = refilled_from out at bytes {size = 4} (bytes_long (lit≤ tt) p) from i i _ n refl f.filled g.filled (omega arith) (omega arith) in
     record { times = n; on = omega arith; within = omega arith; filled = whole }
 
 -- of n pixels all are filled where less than one is left
 pub fills_all :
     {p at end to : ℕ} {out now : List ℕ} (n : ℕ) → Fills p at end out to now → (end ≡ at + n * 4) × (end < to + 4)
-    → Filled out at (four_bytes (unpacked p)) n now
+    → Filled out at (bytes_in 4 (unpacked p)) n now
 fills_all {p} {at} {out = out} n f h =
-    f.filled ∙ ap (λ (m : ℕ). pasted at (repeated m (four_bytes (unpacked p))) out) (omega arith)
+    f.filled ∙ ap (λ (m : ℕ). pasted at (repeated m (bytes_in 4 (unpacked p))) out) (omega arith)
 
 -- where less than twice the size was left, less than once is left after
 pub once_close : (size at end to : ℕ) → FillsOnce size at end to → end < at + size + size → end < to + size

@@ -12,7 +12,7 @@ use Rattle.rules.specs.Reading.{Place}
 use Rattle.walk.specs.declared.lanes.Lanes.{Lanes}
 use Rattle.walk.specs.declared.spot.Reached.{Reached}
 use Rattle.walk.specs.declared.spot.Spot.{Spot}
-use Rattle.walk.specs.Lanes.{Narrow, Holds}
+use Rattle.walk.specs.Lanes.{pixel_in}
 use Rattle.walk.specs.Asked.{Of, Lies, Stands, Onward, Ends, place_in, reached_in, spot_at}
 use Rattle.walk.specs.Walking.{walking, standing}
 use Rattle.walk.proofs.Fitting.{Fits}
@@ -24,7 +24,7 @@ module _ {header : Header} {wanted : ℕ} {message : List ℕ} {left steps : ℕ
   of_place = record { counted = sym f.counted; sourced = λ i. header.channels }
 
   -- a place within what the header says is a spot that lies there
-  module _ {l : Lanes} (holds : Holds l place.current) where
+  module _ (l : Lanes) (holds : pixel_in l ≡ place.current) where
     pub lies_first : Lies wanted message left (spot_at place.at 0 steps l) out
     lies_first =
         record {
@@ -33,20 +33,19 @@ module _ {header : Header} {wanted : ℕ} {message : List ℕ} {left steps : ℕ
           inside = f.inside;
           within = omega arith;
           room = f.room;
-          narrow = holds.narrow;
         }
 
     -- the rounds may begin where its pixel is one that a chunk leaves
     pub stands_first :
         decoder_keeps wanted place.current ≡ place.current → Stands wanted message left (spot_at place.at 0 steps l) out
     stands_first kept =
-        record { lies = lies_first; kept = ap (decoder_keeps wanted) holds.is ∙ kept ∙ sym holds.is }
+        record { lies = lies_first; kept = ap (decoder_keeps wanted) holds ∙ kept ∙ sym holds }
 
     module _ {slots : List Pixel} (same : slots ≡ place.slots) where
       place_first : place_in place.pixel (spot_at place.at 0 steps l) slots ≡ place
       place_first =
           let none : place.pixel + 0 ≡ place.pixel = omega arith in
-          λ i. record { at = place.at; pixel = none i; current = holds.is i; slots = same i }
+          λ i. record { at = place.at; pixel = none i; current = holds i; slots = same i }
 
       -- the walk from the first spot is the walk from the place
       from_first :
@@ -84,5 +83,5 @@ module _ {header : Header} {wanted : ℕ} {message : List ℕ} {left steps : ℕ
   pub arrives :
       {spot : Spot} {slots : List Pixel} {out' : List ℕ} {end : Reached} {slots' : List Pixel} {out'' : List ℕ}
       → Ends wanted message header.channels left spot slots out' end slots' out''
-      → Narrow end.spot.lanes × (place.pixel + end.spot.done ≤ 400000000)
-  arrives e = (e.narrow, omega (arith, e.within, f.counted, pixels_small header f.fit))
+      → place.pixel + end.spot.done ≤ 400000000
+  arrives e = omega (arith, e.within, f.counted, pixels_small header f.fit)

@@ -1,8 +1,7 @@
 -- What the loops' own parts ask of one another; nothing that a public contract cites.
-use Rattle.std.specs.Prelude.{List, [], ◌∷◌, ◌≡◌, ℕ, ◌+◌, ◌*◌, ◌≤◌, ◌<◌, length}
+use Rattle.std.specs.Prelude.{List, ◌≡◌, ℕ, ◌+◌, ◌*◌, ◌≤◌, ◌<◌, length, take}
 use Rattle.pixel.specs.declared.Pixel.{Pixel}
 use Rattle.pixel.specs.declared.types.Channels.{Channels}
-use Rattle.pixel.specs.Colour.{red, green, blue, alpha}
 use Rattle.pixel.specs.Packed.{unpacked}
 use Rattle.header.specs.declared.Header.{Header}
 use Rattle.header.specs.Header.{pixel_count}
@@ -12,22 +11,19 @@ use Rattle.rules.specs.Decode.{decoder_keeps}
 use Rattle.walk.specs.declared.lanes.Lanes.{Lanes}
 use Rattle.walk.specs.declared.spot.Reached.{Reached}
 use Rattle.walk.specs.declared.spot.Spot.{Spot}
-use Rattle.walk.specs.Lanes.{pixel_in, Narrow, Holds}
+use Rattle.walk.specs.Lanes.{pixel_in}
 use Rattle.walk.specs.Walking.{Walk, walking}
 
--- a pixel's bytes, with three channels and with four
-abbrev pub three_bytes : Pixel → List ℕ
-three_bytes p = red p ∷ green p ∷ blue p ∷ []
-
-abbrev pub four_bytes : Pixel → List ℕ
-four_bytes p = red p ∷ green p ∷ blue p ∷ alpha p ∷ []
+-- the bytes that are written of a pixel, with that many channels wanted
+abbrev pub bytes_in : ℕ → Pixel → List ℕ
+bytes_in channels p = take channels p.rgba
 
 -- a packed pixel fills an output from `at` to `to`, which is no further than `end`: whole pixels
 pub record Fills (p at end : ℕ) (out : List ℕ) (to : ℕ) (out' : List ℕ) : Type 0 where
   pub times : ℕ
   pub on : to ≡ at + times * 4
   pub within : to ≤ end
-  pub filled : out' ≡ pasted at (repeated times (four_bytes (unpacked p))) out
+  pub filled : out' ≡ pasted at (repeated times (bytes_in 4 (unpacked p))) out
 
 -- `size` bytes are filled once where they fit, and else none
 abbrev pub FillsOnce : ℕ → ℕ → ℕ → ℕ → Type 0
@@ -45,7 +41,6 @@ pub record Lies (wanted : ℕ) (message : List ℕ) (missing : ℕ) (spot : Spot
   pub inside : spot.at ≤ length message
   pub within : spot.done ≤ missing
   pub room : missing * wanted ≤ length out
-  pub narrow : Narrow spot.lanes
 
 -- and its pixel is one that a chunk leaves
 pub record Stands (wanted : ℕ) (message : List ℕ) (missing : ℕ) (spot : Spot) (out : List ℕ) : Type 0 where
@@ -80,7 +75,6 @@ module _ (wanted : ℕ) (message : List ℕ) (source : Channels) (missing : ℕ)
   pub record Ends
       (spot : Spot) (slots : List Pixel) (out : List ℕ) (end : Reached) (slots' : List Pixel) (out' : List ℕ) : Type 0 where
     pub within : end.spot.done ≤ missing
-    pub narrow : Narrow end.spot.lanes
     pub whole :
         (from : ℕ) (header : Header) → Of source missing from header
         → walking header wanted message from spot.spare (place_in from spot slots) out ≡ reached_in from end slots' out'
@@ -88,10 +82,10 @@ module _ (wanted : ℕ) (message : List ℕ) (source : Channels) (missing : ℕ)
 -- quick rounds may begin at a byte position with a packed pixel
 abbrev pub Begins : ℕ → List ℕ → ℕ → ℕ → ℕ → ℕ → List ℕ → Type 0
 Begins wanted message missing at spare current out =
-    (l : Lanes) → Holds l (unpacked current) → Stands wanted message missing (spot_at at 0 spare l) out
+    (l : Lanes) → (pixel_in l ≡ unpacked current) → Stands wanted message missing (spot_at at 0 spare l) out
 
 -- and from there they come to a spot
 abbrev pub Comes : ℕ → List ℕ → Channels → ℕ → ℕ → ℕ → ℕ → List Pixel → List ℕ → Spot → List Pixel → List ℕ → Type 0
 Comes wanted message source missing at spare current slots out spot slots' out' =
-    (l : Lanes) × Holds l (unpacked current)
+    (l : Lanes) × (pixel_in l ≡ unpacked current)
     × Onward wanted message source missing (spot_at at 0 spare l) slots out spot slots' out'

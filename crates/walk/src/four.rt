@@ -1,115 +1,108 @@
-// The chunks of a decode to four channels, as far as each is sure to be whole.
-ghost use Rattle.std.specs.Prelude.{◌≡◌, map, ◌+◌, ◌*◌, ◌≤◌, length, set};
-ghost use Rattle.pixel.specs.Colour.{slot_of};
+// Four bytes for a pixel.
+ghost use Rattle.std.specs.Prelude.{◌≡◌, ◌+◌, ◌*◌, ◌<◌, ◌≤◌, length};
+ghost use Rattle.std.proofs.Common.{rules};
 ghost use Rattle.pixel.specs.Packed.{unpacked};
-ghost use Rattle.rules.specs.Bytes.{pasted};
-ghost use Rattle.walk.specs.Lanes.{pixel_in, Narrow};
-ghost use Rattle.walk.specs.Asked.{Stands, Onward, four_bytes};
+ghost use Rattle.rules.specs.Bytes.{repeated, pasted};
+ghost use Rattle.walk.specs.Asked.{bytes_in, Fills, FillsOnce};
 
 use crate::lanes::Lanes;
-use crate::spot::Spot;
-use crate::{fill, lanes};
-use pixel::types::Channels;
+use crate::layout::Layout;
+use pixel::packed;
 
-// A round: n chunks, where n steps, n pixels and 5n bytes are left. It ends early before an ff that is stuck, and where
-// runs left fewer pixels.
-pub fn quick_four(
-    message: &[u8],
-    source: Channels,
-    missing: usize,
-    spot: Spot,
-    held: &mut [u32; 64],
-    out: &mut [u8],
-) -> Spot
-    requires { Stands 4 message.now missing spot out.old }
-    ensures { Onward 4 message.now source missing
-        spot (map unpacked held.old) out.old
-        result (map unpacked held.new) out.new }
-{
-    let mut at = spot.at;
-    let mut done = spot.done;
-    let mut l = spot.lanes;
-    let mut quota = crate::least(
-        crate::least(spot.spare, missing - done),
-        (message.len() - at) / 5,
-    );
-    let base = spot.spare - quota;
-    while 0 < quota {
-        let byte = message[at];
-        if byte < 64 {
-            let stored = held[byte as usize];
-            l = lanes::of_packed(stored);
-            fill::put_four(out, done * 4, stored);
-            at += 1;
-            done += 1;
-            quota -= 1;
-        } else if 192 <= byte {
-            if byte == 254 {
-                l = lanes::after_rgb(l, message[at + 1], message[at + 2], message[at + 3]);
-                keep_four(held, out, done, l);
-                // In another order than in the other arms: so LLVM lets fewer of them share an end to jump to.
-                quota -= 1;
-                done += 1;
-                at += 4;
-            } else if byte == 255 {
-                match source {
-                    Channels::Rgb => {
-                        break;
-                    }
-                    Channels::Rgba => {
-                        l = lanes::of_bytes(
-                            message[at + 1],
-                            message[at + 2],
-                            message[at + 3],
-                            message[at + 4],
-                        );
-                        keep_four(held, out, done, l);
-                        at += 5;
-                        done += 1;
-                        quota -= 1;
-                    }
-                }
-            } else {
-                let n = crate::least(byte as usize - 191, missing - done);
-                fill::fill_four(out, done * 4, n, lanes::join(l));
-                at += 1;
-                done += n;
-                quota -= 1;
-                if missing - done < quota {
-                    break;
-                }
-            }
-        } else if byte < 128 {
-            l = lanes::after_diff(l, byte);
-            keep_four(held, out, done, l);
-            at += 1;
-            done += 1;
-            quota -= 1;
-        } else {
-            l = lanes::after_luma(l, byte, message[at + 1]);
-            keep_four(held, out, done, l);
-            at += 2;
-            done += 1;
-            quota -= 1;
-        }
+pub struct Four;
+
+impl Layout for Four {
+    ghost CHANNELS = { 4 };
+
+    ghost at_most_four = { Prim.search rules };
+
+    const CHANNELS: usize = 4;
+
+    #[tactic(auto, unfolding(rules::specs::Decode::decoder_keeps))]
+    fn keep(p: u32) -> u32 {
+        p
     }
-    Spot {
-        at,
-        done,
-        spare: base + quota,
-        lanes: l,
+
+    #[tactic(auto, unfolding(rules::specs::Decode::decoder_keeps))]
+    fn lanes(r: u8, g: u8, b: u8, a: u8) -> Lanes {
+        Lanes::of_bytes(r, g, b, a)
+    }
+
+    fn put(out: &mut [u8], at: usize, p: u32) {
+        out[at] = packed::red(p);
+        out[at + 1] = packed::green(p);
+        out[at + 2] = packed::blue(p);
+        out[at + 3] = packed::alpha(p);
+    }
+
+    fn put_many(out: &mut [u8], at: usize, times: usize, p: u32) {
+        if times <= 16 {
+            put_some(out, at, times, p);
+        } else {
+            put_long(out, at, times, p);
+        }
     }
 }
 
-// Stores a pixel in its slot, and writes it.
-fn keep_four(held: &mut [u32; 64], out: &mut [u8], done: usize, l: Lanes)
-    requires { Narrow l × (done * 4 + 4 ≤ length out.old) }
-    ensures { (map unpacked held.new
-        ≡ set (map unpacked held.old) (slot_of (pixel_in l)) (pixel_in l))
-        × (out.new ≡ pasted (done * 4) (four_bytes (pixel_in l)) out.old) }
+// Four to sixteen times: four blocks, each after the one before it, or over it where fewer pixels are left.
+fn put_some(out: &mut [u8], at: usize, times: usize, p: u32)
+    requires { (4 ≤ times) × (times ≤ 16) × (at + times * 4 ≤ length out.old) }
+    ensures { out.new ≡ pasted at (repeated times (bytes_in 4 (unpacked p))) out.old }
 {
-    let p = lanes::join(l);
-    let i = lanes::slot(l);
-    held[i] = p;
-    fill::put_four(out, done * 4, p);
+    let last = at + (times - 4) * 4;
+    block::<4>(out, at, p);
+    block::<4>(out, last.min(at + 16), p);
+    block::<4>(out, last.min(at + 32), p);
+    block::<4>(out, last, p);
+}
+
+// More than sixteen times: up to a multiple of 16, since a store there crosses no cache line where the output starts at
+// one; by 64 bytes; and what is left, with no byte written twice: of the shapes at multiples of 16 the fastest on Arm.
+fn put_long(out: &mut [u8], at: usize, times: usize, p: u32)
+    requires { (16 < times) × (at + times * 4 ≤ length out.old) }
+    ensures { out.new ≡ pasted at (repeated times (bytes_in 4 (unpacked p))) out.old }
+{
+    let end = at + times * 4;
+    let eights = once::<1>(out, at, at + at % 8, p);
+    let sixteens = once::<2>(out, eights, eights + eights % 16, p);
+    let under_64 = pages(out, sixteens, end, p);
+    let under_32 = once::<8>(out, under_64, end, p);
+    let under_16 = once::<4>(out, under_32, end, p);
+    let under_8 = once::<2>(out, under_16, end, p);
+    once::<1>(out, under_8, end, p);
+}
+
+// Sixteen pixels, as often as they fit before the end; answers where they end.
+fn pages(out: &mut [u8], at: usize, end: usize, p: u32) -> usize
+    requires { (at ≤ end) × (end ≤ length out.old) }
+    ensures { Fills p at end out.old result out.new × (end < result + 64) }
+{
+    let mut i = at;
+    while 64 <= end - i {
+        block::<16>(out, i, p);
+        i += 64;
+    }
+    i
+}
+
+// N pixels, if they fit before the end; answers where they end.
+fn once<const N: usize>(out: &mut [u8], at: usize, end: usize, p: u32) -> usize
+    requires { (at ≤ end) × (end ≤ length out.old) }
+    ensures { Fills p at end out.old result out.new × FillsOnce (N * 4) at end result }
+{
+    if (end - at) / 4 < N {
+        return at;
+    }
+    block::<N>(out, at, p);
+    at + N * 4
+}
+
+// N pixels.
+fn block<const N: usize>(out: &mut [u8], at: usize, p: u32)
+    requires { at + N * 4 ≤ length out.old }
+    ensures { out.new ≡ pasted at (repeated N (bytes_in 4 (unpacked p))) out.old }
+{
+    for i in 0..N {
+        Four::put(out, at + i * 4, p);
+    }
 }

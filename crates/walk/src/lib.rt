@@ -7,16 +7,23 @@ ghost use Rattle.header.specs.Header.{pixel_count};
 ghost use Rattle.rules.specs.Reading.{start_place};
 ghost use Rattle.walk.specs.Walking.{place_of, walk_of, ended_of, end_of, fits as fitting, walking_into};
 
+use careful::careful;
+use four::Four;
 use header::Header;
+use lanes::Lanes;
+use layout::Layout;
 use pixel::consts::QOI_HEADER_SIZE;
 use pixel::types::Channels;
 use pixel::{Pixel, packed};
+use rounds::rounds;
 use spot::Spot;
+use three::Three;
 
 mod careful;
-mod fill;
 mod four;
 mod lanes;
+mod layout;
+mod quick;
 mod rounds;
 mod slots;
 mod spot;
@@ -60,10 +67,38 @@ pub fn walk(
     ensures { walk_of result out.new ≡ walking_into header (channels_number wanted)
         message.now left steps (place_of place) out.old }
 {
-    if !fits(
+    match wanted {
+        Channels::Rgb => walk_in::<Three>(message, header, place, left, out, steps),
+        Channels::Rgba => walk_in::<Four>(message, header, place, left, out, steps),
+    }
+}
+
+// Does every chunk of a message from its start. Where the input does not fit, it does none.
+pub fn whole(message: &[u8], header: Header, wanted: Channels, out: &mut [u8]) -> Ended
+    ensures { ended_of result out.new ≡ end_of (walking_into header (channels_number wanted)
+        message.now (pixel_count header) (pixel_count header) start_place out.old) }
+{
+    match wanted {
+        Channels::Rgb => whole_in::<Three>(message, header, out),
+        Channels::Rgba => whole_in::<Four>(message, header, out),
+    }
+}
+
+// The walk where a pixel lies in the output as L says.
+fn walk_in<L: Layout>(
+    message: &[u8],
+    header: Header,
+    place: Place,
+    left: usize,
+    out: &mut [u8],
+    steps: usize,
+) -> Walked
+    ensures { walk_of result out.new ≡ walking_into header L.CHANNELS
+        message.now left steps (place_of place) out.old }
+{
+    if !fits::<L>(
         message.len(),
         header,
-        wanted,
         place.at,
         place.pixel,
         left,
@@ -77,40 +112,35 @@ pub fn walk(
         };
     }
     let source = header.channels;
-    let from = place.pixel;
-    let start = place.current;
-    let current = packed::of_pixel(start);
-    let slots = place.slots;
-    let mut held = slots::hold(slots);
-    if !rounds::may_follow(wanted, current) {
+    let current = packed::of_pixel(place.current);
+    let mut held = slots::hold(place.slots);
+    if !rounds::may_follow::<L>(current) {
         let first = Spot {
             at: place.at,
             done: 0,
             spare: steps,
-            lanes: lanes::of_packed(current),
+            lanes: Lanes::of_packed(current),
         };
-        let end = careful::careful(message, wanted, source, left, first, &mut held, out);
-        return spot::arrived(from, end, held);
+        let end = careful::<L>(message, source, left, first, &mut held, out);
+        return end.walked(place.pixel, held);
     }
-    let at = place.at;
-    let spot = rounds::rounds(
-        message, wanted, source, left, at, steps, current, &mut held, out,
+    let spot = rounds::<L>(
+        message, source, left, place.at, steps, current, &mut held, out,
     );
-    let end = careful::careful(message, wanted, source, left, spot, &mut held, out);
-    spot::arrived(from, end, held)
+    let end = careful::<L>(message, source, left, spot, &mut held, out);
+    end.walked(place.pixel, held)
 }
 
-// Does every chunk of a message from its start. Where the input does not fit, it does none.
-pub fn whole(message: &[u8], header: Header, wanted: Channels, out: &mut [u8]) -> Ended
-    ensures { ended_of result out.new ≡ end_of (walking_into header (channels_number wanted)
+// The walk of a whole message where a pixel lies in the output as L says.
+fn whole_in<L: Layout>(message: &[u8], header: Header, out: &mut [u8]) -> Ended
+    ensures { ended_of result out.new ≡ end_of (walking_into header L.CHANNELS
         message.now (pixel_count header) (pixel_count header) start_place out.old) }
 {
     let source = header.channels;
     let missing = header.n_pixels();
-    if !fits(
+    if !fits::<L>(
         message.len(),
         header,
-        wanted,
         QOI_HEADER_SIZE,
         0,
         missing,
@@ -124,9 +154,8 @@ pub fn whole(message: &[u8], header: Header, wanted: Channels, out: &mut [u8]) -
     }
     let mut held: [u32; 64] = [0; 64];
     let start = packed::pack(0, 0, 0, 255);
-    let spot = rounds::rounds(
+    let spot = rounds::<L>(
         message,
-        wanted,
         source,
         missing,
         QOI_HEADER_SIZE,
@@ -141,26 +170,24 @@ pub fn whole(message: &[u8], header: Header, wanted: Channels, out: &mut [u8]) -
             at: spot.at,
         };
     }
-    let end = careful::careful(message, wanted, source, missing, spot, &mut held, out);
-    let last = end.spot;
+    let end = careful::<L>(message, source, missing, spot, &mut held, out);
     Ended {
         cut: end.cut,
-        at: last.at,
+        at: end.spot.at,
     }
 }
 
 // Whether the header passes its test, and place, output and steps lie within what it says.
-fn fits(
+fn fits<L: Layout>(
     message: usize,
     header: Header,
-    wanted: Channels,
     at: usize,
     pixel: usize,
     left: usize,
     room: usize,
     steps: usize,
 ) -> bool
-    ensures { result ≡ fitting header (channels_number wanted) message left steps at pixel room }
+    ensures { result ≡ fitting header L.CHANNELS message left steps at pixel room }
 {
     if !header.dimensions_fit() {
         return false;
@@ -178,7 +205,7 @@ fn fits(
     if left + 1 < steps {
         return false;
     }
-    let needed = left * (wanted.as_u8() as usize);
+    let needed = left * L::CHANNELS;
     if room < needed {
         return false;
     }
@@ -189,5 +216,5 @@ fn fits(
 pub fn least(a: usize, b: usize) -> usize
     ensures { result ≡ min a b }
 {
-    if a < b { a } else { b }
+    a.min(b)
 }

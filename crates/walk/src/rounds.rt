@@ -1,20 +1,19 @@
 // Quick rounds, one after another while they get on.
 ghost use Rattle.std.specs.Prelude.{map, ◌≡◌, T};
 ghost use Rattle.pixel.specs.Packed.{unpacked};
-ghost use Rattle.pixel.specs.Types.{channels_number};
 ghost use Rattle.rules.specs.Decode.{decoder_keeps};
 ghost use Rattle.walk.specs.Asked.{Stands, Onward, Begins, Comes};
 
+use crate::lanes::Lanes;
+use crate::layout::Layout;
+use crate::quick::quick;
 use crate::spot::Spot;
-use crate::{four, lanes, three};
-use pixel::packed;
 use pixel::types::Channels;
 
 // From a byte position and a packed pixel, as far as every chunk is sure to be whole: to the last pixel or step, if the
 // message has its marker and no ff is stuck. It takes numbers, which are handed over in registers, and no spot.
-pub fn rounds(
+pub fn rounds<L: Layout>(
     message: &[u8],
-    wanted: Channels,
     source: Channels,
     missing: usize,
     at: usize,
@@ -23,8 +22,8 @@ pub fn rounds(
     held: &mut [u32; 64],
     out: &mut [u8],
 ) -> Spot
-    requires { Begins (channels_number wanted) message.now missing at spare current out.old }
-    ensures { Comes (channels_number wanted) message.now source missing
+    requires { Begins L.CHANNELS message.now missing at spare current out.old }
+    ensures { Comes L.CHANNELS message.now source missing
         at spare current (map unpacked held.old) out.old
         result (map unpacked held.new) out.new }
 {
@@ -32,44 +31,20 @@ pub fn rounds(
         at,
         done: 0,
         spare,
-        lanes: lanes::of_packed(current),
+        lanes: Lanes::of_packed(current),
     };
     let mut before = spare + 1;
     while spot.spare < before && spot.done < missing {
         before = spot.spare;
-        spot = round(message, wanted, source, missing, spot, held, out);
+        spot = quick::<L>(message, source, missing, spot, held, out);
     }
     spot
 }
 
-// One round.
-fn round(
-    message: &[u8],
-    wanted: Channels,
-    source: Channels,
-    missing: usize,
-    spot: Spot,
-    held: &mut [u32; 64],
-    out: &mut [u8],
-) -> Spot
-    requires { Stands (channels_number wanted) message.now missing spot out.old }
-    ensures { Onward (channels_number wanted) message.now source missing
-        spot (map unpacked held.old) out.old
-        result (map unpacked held.new) out.new }
-{
-    match wanted {
-        Channels::Rgb => three::quick_three(message, source, missing, spot, held, out),
-        Channels::Rgba => four::quick_four(message, source, missing, spot, held, out),
-    }
-}
-
 // Whether a packed pixel is one that a chunk may leave: with three channels wanted its alpha is 255, but a made-up
 // place may have another. A false answer only costs time.
-pub fn may_follow(wanted: Channels, p: u32) -> bool
-    ensures { T result → decoder_keeps (channels_number wanted) (unpacked p) ≡ unpacked p }
+pub fn may_follow<L: Layout>(p: u32) -> bool
+    ensures { T result → decoder_keeps L.CHANNELS (unpacked p) ≡ unpacked p }
 {
-    match wanted {
-        Channels::Rgb => packed::alpha(p) == 255,
-        Channels::Rgba => true,
-    }
+    L::keep(p) == p
 }

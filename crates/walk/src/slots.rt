@@ -1,4 +1,5 @@
-// The slots, packed: what the quick loops hold.
+// The slots, packed: what the quick loops hold. A loop over both arrays compiles to moves of whole registers, and the
+// library's `map` of an array, which hands over one element after another, does not.
 ghost use Rattle.std.specs.Prelude.{◌≡◌, map};
 ghost use Rattle.pixel.specs.Packed.{unpacked};
 
@@ -9,11 +10,8 @@ pub fn hold(slots: [Pixel; 64]) -> [u32; 64]
     ensures { map unpacked result ≡ slots }
 {
     let mut held: [u32; 64] = [0; 64];
-    let mut i: usize = 0;
-    while i < 64 {
-        let stored = slots[i];
-        held[i] = packed::of_pixel(stored);
-        i += 1;
+    for i in 0..64 {
+        held[i] = packed::of_pixel(slots[i]);
     }
     held
 }
@@ -22,12 +20,9 @@ pub fn hold(slots: [Pixel; 64]) -> [u32; 64]
 pub fn release(held: [u32; 64]) -> [Pixel; 64]
     ensures { result ≡ map unpacked held }
 {
-    let clear = Pixel::clear();
-    let mut slots: [Pixel; 64] = [clear; 64];
-    let mut i: usize = 0;
-    while i < 64 {
+    let mut slots = [Pixel::clear(); 64];
+    for i in 0..64 {
         slots[i] = packed::unpack(held[i]);
-        i += 1;
     }
     slots
 }

@@ -1,12 +1,11 @@
 // Where a walk's loops stand between two chunks.
 ghost use Rattle.std.specs.Prelude.{List, map, ◌≡◌, ℕ, ◌+◌, ◌≤◌};
 ghost use Rattle.pixel.specs.Packed.{unpacked};
-ghost use Rattle.walk.specs.Lanes.{Narrow};
 ghost use Rattle.walk.specs.Walking.{place_of, walk_of};
 ghost use Rattle.walk.specs.Asked.{place_in, reached_in};
 
 use crate::lanes::Lanes;
-use crate::{Place, Walked, lanes, slots};
+use crate::{Place, Walked, slots};
 use pixel::packed;
 
 #[derive(Clone, Copy)]
@@ -20,6 +19,21 @@ pub struct Spot {
     pub lanes: Lanes,
 }
 
+impl Spot {
+    // The place of the spot in a walk that began at pixel `from`.
+    fn place(self, from: usize, held: [u32; 64]) -> Place
+        requires { from + self.done ≤ 400000000 }
+        ensures { place_of result ≡ place_in from self (map unpacked held) }
+    {
+        Place {
+            at: self.at,
+            pixel: from + self.done,
+            current: packed::unpack(self.lanes.join()),
+            slots: slots::release(held),
+        }
+    }
+}
+
 // Where a walk came to, and whether the next chunk is cut short.
 #[derive(Clone, Copy)]
 pub struct Reached {
@@ -27,29 +41,16 @@ pub struct Reached {
     pub spot: Spot,
 }
 
-// The answer of a walk that began at pixel `from`.
-pub fn arrived(from: usize, end: Reached, held: [u32; 64]) -> Walked
-    requires { Narrow end.spot.lanes × (from + end.spot.done ≤ 400000000) }
-    ensures { (out : List ℕ) → walk_of result out ≡ reached_in from end (map unpacked held) out }
-{
-    let spot = end.spot;
-    Walked {
-        cut: end.cut,
-        spare: spot.spare,
-        place: place(from, spot, held),
-    }
-}
-
-// The place of a spot of a walk that began at pixel `from`.
-fn place(from: usize, spot: Spot, held: [u32; 64]) -> Place
-    requires { Narrow spot.lanes × (from + spot.done ≤ 400000000) }
-    ensures { place_of result ≡ place_in from spot (map unpacked held) }
-{
-    let lanes = spot.lanes;
-    Place {
-        at: spot.at,
-        pixel: from + spot.done,
-        current: packed::unpack(lanes::join(lanes)),
-        slots: slots::release(held),
+impl Reached {
+    // The answer of a walk that began at pixel `from`.
+    pub fn walked(self, from: usize, held: [u32; 64]) -> Walked
+        requires { from + self.spot.done ≤ 400000000 }
+        ensures { (out : List ℕ) → walk_of result out ≡ reached_in from self (map unpacked held) out }
+    {
+        Walked {
+            cut: self.cut,
+            spare: self.spot.spare,
+            place: self.spot.place(from, held),
+        }
     }
 }

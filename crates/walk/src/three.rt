@@ -1,111 +1,65 @@
-// The chunks of a decode to three channels, as far as each is sure to be whole.
-ghost use Rattle.std.specs.Prelude.{◌≡◌, map, ◌+◌, ◌*◌, ◌≤◌, length, set};
-ghost use Rattle.pixel.specs.Colour.{slot_of};
+// Three bytes for a pixel: alpha is not wanted.
+ghost use Rattle.std.specs.Prelude.{◌≡◌, ◌++◌, ◌+◌, ◌≤◌, length};
+ghost use Rattle.std.proofs.Common.{rules};
 ghost use Rattle.pixel.specs.Packed.{unpacked};
 ghost use Rattle.rules.specs.Bytes.{pasted};
-ghost use Rattle.walk.specs.Lanes.{pixel_in, Narrow};
-ghost use Rattle.walk.specs.Asked.{Stands, Onward, three_bytes};
+ghost use Rattle.walk.specs.Asked.{bytes_in};
 
+use crate::four::Four;
 use crate::lanes::Lanes;
-use crate::spot::Spot;
-use crate::{fill, lanes};
+use crate::layout::Layout;
 use pixel::packed;
-use pixel::types::Channels;
 
-// A round: n chunks, where n steps, n pixels and 5n bytes are left. It ends early before an ff that is stuck, and where
-// runs left fewer pixels.
-pub fn quick_three(
-    message: &[u8],
-    source: Channels,
-    missing: usize,
-    spot: Spot,
-    held: &mut [u32; 64],
-    out: &mut [u8],
-) -> Spot
-    requires { Stands 3 message.now missing spot out.old }
-    ensures { Onward 3 message.now source missing
-        spot (map unpacked held.old) out.old
-        result (map unpacked held.new) out.new }
-{
-    let mut at = spot.at;
-    let mut done = spot.done;
-    let mut l = spot.lanes;
-    let mut quota = crate::least(
-        crate::least(spot.spare, missing - done),
-        (message.len() - at) / 5,
-    );
-    let base = spot.spare - quota;
-    while 0 < quota {
-        let byte = message[at];
-        if byte < 64 {
-            let stored = held[byte as usize];
-            l = lanes::of_packed(packed::opaque(stored));
-            fill::put_three(out, done * 3, stored);
-            at += 1;
-            done += 1;
-            quota -= 1;
-        } else if 192 <= byte {
-            if byte == 254 {
-                l = lanes::of_bytes(message[at + 1], message[at + 2], message[at + 3], 255);
-                keep_three(held, out, done, l);
-                // In another order than in the other arms: so LLVM lets fewer of them share an end to jump to.
-                quota -= 1;
-                done += 1;
-                at += 4;
-            } else if byte == 255 {
-                match source {
-                    Channels::Rgb => {
-                        break;
-                    }
-                    Channels::Rgba => {
-                        l = lanes::of_bytes(message[at + 1], message[at + 2], message[at + 3], 255);
-                        keep_three(held, out, done, l);
-                        at += 5;
-                        done += 1;
-                        quota -= 1;
-                    }
-                }
-            } else {
-                let n = crate::least(byte as usize - 191, missing - done);
-                fill::fill_three(out, done * 3, n, lanes::join(l));
-                at += 1;
-                done += n;
-                quota -= 1;
-                if missing - done < quota {
-                    break;
-                }
-            }
-        } else if byte < 128 {
-            l = lanes::after_diff(l, byte);
-            keep_three(held, out, done, l);
-            at += 1;
-            done += 1;
-            quota -= 1;
-        } else {
-            l = lanes::after_luma(l, byte, message[at + 1]);
-            keep_three(held, out, done, l);
-            at += 2;
-            done += 1;
-            quota -= 1;
-        }
+pub struct Three;
+
+impl Layout for Three {
+    ghost CHANNELS = { 3 };
+
+    ghost at_most_four = { Prim.search rules };
+
+    const CHANNELS: usize = 3;
+
+    #[tactic(auto, unfolding(rules::specs::Decode::decoder_keeps))]
+    fn keep(p: u32) -> u32 {
+        packed::opaque(p)
     }
-    Spot {
-        at,
-        done,
-        spare: base + quota,
-        lanes: l,
+
+    #[tactic(auto, unfolding(rules::specs::Decode::decoder_keeps))]
+    fn lanes(r: u8, g: u8, b: u8, _: u8) -> Lanes {
+        Lanes::of_bytes(r, g, b, 255)
+    }
+
+    fn put(out: &mut [u8], at: usize, p: u32) {
+        out[at] = packed::red(p);
+        out[at + 1] = packed::green(p);
+        out[at + 2] = packed::blue(p);
+    }
+
+    // Four pixels are three words.
+    fn put_many(out: &mut [u8], at: usize, times: usize, p: u32) {
+        let r = packed::red(p);
+        let g = packed::green(p);
+        let b = packed::blue(p);
+        let x = packed::pack(r, g, b, r);
+        let y = packed::pack(g, b, r, g);
+        let z = packed::pack(b, r, g, b);
+        let last = at + (times - 4) * 3;
+        let mut i = at;
+        while i < last {
+            words(out, i, x, y, z);
+            i += 12;
+        }
+        words(out, last, x, y, z);
     }
 }
 
-// Stores a pixel in its slot, and writes it.
-fn keep_three(held: &mut [u32; 64], out: &mut [u8], done: usize, l: Lanes)
-    requires { Narrow l × (done * 3 + 3 ≤ length out.old) }
-    ensures { (map unpacked held.new
-        ≡ set (map unpacked held.old) (slot_of (pixel_in l)) (pixel_in l))
-        × (out.new ≡ pasted (done * 3) (three_bytes (pixel_in l)) out.old) }
+// Three words one after another.
+fn words(out: &mut [u8], at: usize, x: u32, y: u32, z: u32)
+    requires { at + 12 ≤ length out.old }
+    ensures { out.new
+        ≡ pasted at (bytes_in 4 (unpacked x) ++ (bytes_in 4 (unpacked y) ++ bytes_in 4 (unpacked z))) out.old }
 {
-    let p = lanes::join(l);
-    let i = lanes::slot(l);
-    held[i] = p;
-    fill::put_three(out, done * 3, p);
+    Four::put(out, at, x);
+    Four::put(out, at + 4, y);
+    Four::put(out, at + 8, z);
 }

@@ -1,7 +1,8 @@
--- `chunk::read` meets its contract: each path through the tests is a row of the table.
+-- `chunk::read` meets its contract: each arm is a row of the table.
 -- Assumes nothing.
 use mathlib.Core.Path.{sym}
 use mathlib.Core.Bool.{Bool}
+use mathlib.Core.List.{◌∷◌}
 use native.Mathlib.Omega.{arith}
 use Rattle.pixel.specs.declared.types.Channels.{Channels}
 use Rattle.pixel.specs.Types.{channels_number}
@@ -13,66 +14,65 @@ use Rattle.chunk.proofs.read.Goals as goal
 abbrev reads_rgba : Channels → Bool
 reads_rgba source = decoder_reads_rgba (channels_number source)
 
-pub returns-then-part-eq0 : goal.returns-then-part-eq0
-returns-then-part-eq0 c =
-    let part = c.args.part.now in
-    sym (no_row (reads_rgba c.args.source) part (omega arith))
+pub returns-in_err-byte : goal.returns-in_err-byte
+returns-in_err-byte c = rw (c.from_residual.ensures, no_row (reads_rgba c.args.source) c.args.part.now c.in_err-byte.ensures.cases)
 
-pub returns-then-byte-lt-QOI_OP_DIFF : goal.returns-then-byte-lt-QOI_OP_DIFF
-returns-then-byte-lt-QOI_OP_DIFF c =
-    let part = c.args.part.now in
-    sym (index_row (reads_rgba c.args.source) part (omega arith) (omega arith))
+pub returns-in-0-to-63 : goal.returns-in-0-to-63
+returns-in-0-to-63 c =
+    let part = c.in_ok-byte.field-0-0.now ∷ c.in_ok-byte.rest.now in
+    rw c.in_ok-byte.ensures.cases.0 (sym (index_row (reads_rgba c.args.source) part (omega arith) (omega arith)))
 
-pub returns-then-part-lt5 : goal.returns-then-part-lt5
+pub returns-in-64-to-127 : goal.returns-in-64-to-127
+returns-in-64-to-127 c =
+    let part = c.in_ok-byte.field-0-0.now ∷ c.in_ok-byte.rest.now in
+    rw c.in_ok-byte.ensures.cases.0 (sym (diff_row (reads_rgba c.args.source) part (omega arith) (omega arith) (omega arith)))
+
+pub returns-in-len1-up : goal.returns-in-len1-up
+returns-in-len1-up c =
+    let part = c.in_ok-byte.field-0-0.now ∷ c.in_ok-byte.rest.now in
+    rw c.in_ok-byte.ensures.cases.0 (sym (luma_row (reads_rgba c.args.source) part (omega arith) (omega arith) (omega arith)))
+
+pub returns-in_default-rest : goal.returns-in_default-rest
+returns-in_default-rest c =
+    let part = c.in_ok-byte.field-0-0.now ∷ c.in_ok-byte.rest.now in
+    rw c.in_ok-byte.ensures.cases.0 (sym (luma_cut (reads_rgba c.args.source) part (omega arith) (omega arith) (omega arith)))
+
+pub returns-in-len3-up : goal.returns-in-len3-up
+returns-in-len3-up c =
+    let part = c.in_ok-byte.field-0-0.now ∷ c.in_ok-byte.rest.now in
+    rw c.in_ok-byte.ensures.cases.0 (sym (rgb_row (reads_rgba c.args.source) part (omega arith) c.in-254.is))
+
+pub returns-in_default : goal.returns-in_default
+returns-in_default c =
+    let part = c.in_ok-byte.field-0-0.now ∷ c.in_ok-byte.rest.now in
+    rw c.in_ok-byte.ensures.cases.0 (sym (rgb_cut (reads_rgba c.args.source) part (omega arith) (omega arith) c.in-254.is))
+
+pub returns-in-Rgba-len4-up : goal.returns-in-Rgba-len4-up
 unfolding decoder_reads_rgba
-returns-then-part-lt5 c =
-    let part = c.args.part.now in
-    rw c.in-Rgba.is (sym (rgba_cut part (omega arith) (omega arith) (omega arith)))
+returns-in-Rgba-len4-up c =
+    let part = c.in_ok-byte.field-0-0.now ∷ c.in_ok-byte.rest.now in
+    rw (c.in-Rgba-len4-up.is-0, c.in_ok-byte.ensures.cases.0) (sym (rgba_row part (omega arith) (omega arith)))
 
-pub returns-in-Rgba : goal.returns-in-Rgba
+pub returns-in-Rgb-len7-up : goal.returns-in-Rgb-len7-up
 unfolding decoder_reads_rgba
-returns-in-Rgba c =
-    let part = c.args.part.now in
-    rw c.in-Rgba.is (sym (rgba_row part (omega arith) (omega arith)))
+returns-in-Rgb-len7-up c =
+    let part = c.in_ok-byte.field-0-0.now ∷ c.in_ok-byte.rest.now in
+    rw (c.in-Rgb-len7-up.is-0, c.in_ok-byte.ensures.cases.0) (sym (stuck_row part (omega arith) (omega arith)))
 
-pub returns-then-part-lt8 : goal.returns-then-part-lt8
+pub returns-in_default-2 : goal.returns-in_default-2
 unfolding decoder_reads_rgba
-returns-then-part-lt8 c =
-    let part = c.args.part.now in
-    rw c.in-Rgb.is (sym (stuck_cut part (omega arith) (omega arith) (omega arith)))
+returns-in_default-2 c =
+    let part = c.in_ok-byte.field-0-0.now ∷ c.in_ok-byte.rest.now in
+    rw (c.in_default-2.is-0, c.in_ok-byte.ensures.cases.0) (sym (rgba_cut part (omega arith) (omega arith) (omega arith)))
 
-pub returns-in-Rgb : goal.returns-in-Rgb
+pub returns-in_default-2-2 : goal.returns-in_default-2-2
 unfolding decoder_reads_rgba
-returns-in-Rgb c =
-    let part = c.args.part.now in
-    rw c.in-Rgb.is (sym (stuck_row part (omega arith) (omega arith)))
+returns-in_default-2-2 c =
+    let part = c.in_ok-byte.field-0-0.now ∷ c.in_ok-byte.rest.now in
+    rw (c.in_default-2.is-0, c.in_ok-byte.ensures.cases.0) (sym (stuck_cut part (omega arith) (omega arith) (omega arith)))
 
-pub returns-then-part-lt4 : goal.returns-then-part-lt4
-returns-then-part-lt4 c =
-    let part = c.args.part.now in
-    sym (rgb_cut (reads_rgba c.args.source) part (omega arith) (omega arith) (omega arith))
-
-pub returns-then-byte-2 : goal.returns-then-byte-2
-returns-then-byte-2 c =
-    let part = c.args.part.now in
-    sym (rgb_row (reads_rgba c.args.source) part (omega arith) (omega arith))
-
-pub returns-then-byte-lt-QOI_OP_LUMA : goal.returns-then-byte-lt-QOI_OP_LUMA
-returns-then-byte-lt-QOI_OP_LUMA c =
-    let part = c.args.part.now in
-    sym (diff_row (reads_rgba c.args.source) part (omega arith) (omega arith) (omega arith))
-
-pub returns-then-part-lt2 : goal.returns-then-part-lt2
-returns-then-part-lt2 c =
-    let part = c.args.part.now in
-    sym (luma_cut (reads_rgba c.args.source) part (omega arith) (omega arith) (omega arith))
-
-pub returns-then-byte-lt-QOI_OP_RUN : goal.returns-then-byte-lt-QOI_OP_RUN
-returns-then-byte-lt-QOI_OP_RUN c =
-    let part = c.args.part.now in
-    sym (luma_row (reads_rgba c.args.source) part (omega arith) (omega arith) (omega arith))
-
-pub returns : goal.returns
-returns c =
-    let part = c.args.part.now in
-    sym (run_row (reads_rgba c.args.source) part (omega (arith, c.type_inv.part 0)) (omega (arith, c.type_inv.part 0)) (omega (arith, c.type_inv.part 0)))
+pub returns-in-192-to-255 : goal.returns-in-192-to-255
+returns-in-192-to-255 c =
+    let part = c.in_ok-byte.field-0-0.now ∷ c.in_ok-byte.rest.now in
+    let byte = rw c.in_ok-byte.ensures.cases.0 at c.type_inv.part 0 in
+    rw c.in_ok-byte.ensures.cases.0 (sym (run_row (reads_rgba c.args.source) part (omega arith) (omega arith) (omega (arith, byte))))
