@@ -1,5 +1,4 @@
 -- The laws behind the record's reader and writer, and of runs.
-pub mod Answers
 pub mod Owned
 pub mod Parts
 pub mod RunLaws

@@ -1,11 +1,11 @@
 -- Laws of a run: it is the walk over its chunks and then, where steps are left, the marker test; the walk may be
 -- handed a part of the output.
 -- Assumes nothing.
-use mathlib.Core.Path.{◌≡◌, refl, sym, ◌∙◌, ap}
+use mathlib.Core.Path.{◌≡◌, refl, sym, ◌∙◌, ap, subst}
 use mathlib.Core.Bool.{Bool, true, false, cond}
 use mathlib.Core.List.{List, [], ◌++◌, append_assoc, append-nil}
 use Prim.Native.Nat.{ℕ, zero, suc, ◌+◌, ◌-◌, ◌*◌, ◌≤◌, ◌<◌, min}
-use native.Mathlib.Nat.{sub-zero, add-mul, add_assoc, mul-le-mul_right, le_of_lt}
+use native.Mathlib.Nat.{sub-zero, add-mul, add_assoc, mul-le-mul, mul-le-mul_right, le_of_lt}
 use native.Mathlib.Omega.{arith}
 use borrow.Author.Tests.{ltb-true, ltb-false, lt-ltb, le-ltb, leb-true, leb-false, le-leb, eq-eqb}
 use borrow.Rule.Slice.PartMut.{put_mid, Post-is}
@@ -17,8 +17,8 @@ use Rattle.pixel.specs.Refusal.{ended_early, bad_state}
 use Rattle.pixel.specs.declared.types.Channels.{Channels}
 use Rattle.pixel.specs.Types.{channels_number}
 use Rattle.header.specs.declared.Header.{Header}
-use Rattle.header.specs.Header.{pixel_count, dimensions_fit}
-use Rattle.header.proofs.Laws.{is_true}
+use Rattle.header.specs.Header.{pixel_count, dimensions_fit, saturated}
+use Rattle.header.proofs.Laws.{is_true, pixels_small}
 use Rattle.rules.specs.Chunk.{Chunk, Found, cut, chunk, chunk_at}
 use Rattle.rules.specs.Bytes.{pasted}
 use Rattle.rules.specs.Reading.{Place, Answer, done, refused, Move, closing, size_wanted, move, move_by, place_after, bytes_of}
@@ -30,7 +30,9 @@ use Rattle.rules.proofs.PlaceLaws.{Shaped, shaped_next, pixel_reached, stays_ins
 use Rattle.rules.proofs.ReadingLaws.{Moved, moved, moved_last, advances, stays_within}
 use Rattle.rules.proofs.RecordLaws.{formed, adds_up, wanted_few}
 use Rattle.rules.proofs.StepLaws.{next_state, bytes_by, needed, well_next, run_enough}
-use Rattle.resume.specs.declared.StepAnswer.{StepAnswer}
+use Rattle.std.specs.Prelude.{Ok, Err}
+use Rattle.resume.specs.Asked.{Ready, size_for, walk_answer}
+use Rattle.pixel.specs.declared.error.Error.{Error}
 use Rattle.resume.specs.Run.{ran_by, end_answer}
 use Rattle.walk.specs.Walking.{Walk, walking, standing, walk_on, fits, walking_into}
 
@@ -61,14 +63,6 @@ ran_walk header number wanted m w =
 -- a well-formed state's pixel is not past the picture
 pub well_within : (s : State) → T (well_formed s) → s.place.pixel ≤ pixel_count s.header
 well_within s well = leb→le s.place.pixel (pixel_count s.header) (formed s well).pixel_passes_lem
-
--- where steps are left, the marker test was one
-pub stood_end :
-    (header : Header) (wanted : ℕ) (m : List ℕ) (n : ℕ) (s : State) (out : List ℕ) → (n ≡ 0 → ⊥)
-    → stood header wanted m n s out ≡ ended (closing (size_wanted header wanted) m s.place.at) s out
-unfolding stood
-stood_end header wanted m zero s out some = absurd (some refl)
-stood_end header wanted m (suc n) s out some = refl
 
 -- an end as an answer is that end
 pub end_ran : (a : Answer) (s : State) (out : List ℕ) → ran_by (end_answer a) s out ≡ ended a s out
@@ -315,11 +309,6 @@ module _ (m : List ℕ) (s : State) (out : List ℕ) (steps : ℕ) (sets : Sets 
   pub through_lies : Lies s.header m walk.place
   through_lies = rw is_walk (walk_lies s.header s.wanted m s.place.pixel n s.place part (inside, within))
 
--- no steps test nothing
-pub run_none : (m : List ℕ) (s : State) (out : List ℕ) → going s out ≡ running m 0 s out
-unfolding running
-run_none m s out = refl
-
 -- one step is a step
 pub run_one : (m : List ℕ) (s : State) (out : List ℕ) → running m 1 s out ≡ run_on going s out (step s m (length out))
 unfolding running
@@ -329,36 +318,55 @@ run_one m s out = go (step s m (length out))
     go (more s' bytes) = refl
     go (end answer) = refl
 
--- a state that is not well formed is 9
-pub run_bad :
-    (m : List ℕ) (n : ℕ) (s : State) (out : List ℕ) → (n ≡ 0 → ⊥) → well_formed s ≡ false
-    → ended (refused bad_state) s out ≡ running m n s out
-unfolding running step
-run_bad m zero s out some bad = absurd (some refl)
-run_bad m (suc n) s out some bad = rw bad
+-- the size of a well-formed state's picture is not too large
+pub exactly : (s : State) → well_formed s ≡ true → saturated (needed s) ≡ needed s
+exactly s passed =
+    let well : T (well_formed s) = subst T (sym passed) tt in
+    let few : pixel_count s.header * s.wanted ≤ 400000000 * 4 =
+    mul-le-mul (pixels_small s.header (formed s well).header_passes_lem) (wanted_few s well) in
+    omega arith
 
--- an output that is too short is 7
-pub run_short :
-    (m : List ℕ) (n : ℕ) (s : State) (out : List ℕ) → (n ≡ 0 → ⊥) → T (well_formed s) → length out < needed s
-    → ended (refused (OutputBufferTooSmall (length out) (needed s))) s out ≡ running m n s out
-unfolding running step
-run_short m zero s out some well short = absurd (some refl)
-run_short m (suc n) s out some well short = rw (is_true (well_formed s) well, lt-ltb (length out) (needed s) short)
-
--- a byte position past the message is 1, with a pixel missing or none
-pub run_past :
-    (m : List ℕ) (n : ℕ) (s : State) (out : List ℕ) → (n ≡ 0 → ⊥) → T (well_formed s) → needed s ≤ length out → length m < s.place.at
-    → ended (refused ended_early) s out ≡ running m n s out
+-- what a state, an output or a message is refused for, before the chunks, is what a run is refused for
+pub run_unfit :
+    (m : List ℕ) (n : ℕ) (s : State) (out : List ℕ) (e : Error) → (n ≡ 0 → ⊥) → size_for s (length m) (length out) ≡ Err e
+    → ended (refused e) s out ≡ running m n s out
 unfolding running step step_by
-run_past m zero s out some well room past = absurd (some refl)
-run_past m (suc n) s out some well room past =
-    rw (is_true (well_formed s) well, le-ltb (length out) (needed s) room, stops)
+run_unfit m zero s out e some is = absurd (some refl)
+run_unfit m (suc n) s out e some is =
+    go (well_formed s) refl (ltb (length out) (needed s)) refl (ltb (length m) s.place.at) refl
   where
-    nothing : drop s.place.at m ≡ []
-    nothing = drop_of_length-le m (le_of_lt past)
+    Goal : Type 0
+    Goal = ended (refused e) s out ≡ run_on (running m n) s out (step s m (length out))
 
-    stops : move decoder s.header s.wanted m s.place ≡ Move.end (refused ended_early)
-    stops = past_move s.header s.wanted m s.place nothing
+    go : (well : Bool) → well_formed s ≡ well → (short : Bool) → ltb (length out) (needed s) ≡ short
+        → (past : Bool) → ltb (length m) s.place.at ≡ past → Goal
+    go false w short sh past p = let at : Err bad_state ≡ Err e = rw w at is in rw w cc
+    go true w true sh past p = let at : Err (OutputBufferTooSmall (length out) (needed s)) ≡ Err e = rw (w, sh) at is in rw (w, sh) cc
+    go true w false sh true p =
+        let at : Err ended_early ≡ Err e = rw (w, sh, p) at is in
+        let nothing : drop s.place.at m ≡ [] = drop_of_length-le m (le_of_lt (ltb-true _ _ p)) in
+        rw (w, sh, past_move s.header s.wanted m s.place nothing) cc
+    go true w false sh false p = let at : Ok (needed s) ≡ Err e = rw (w, sh, p) at is in cc
+
+-- and where it is not refused, the run may go on
+pub run_ready :
+    (m : List ℕ) (s : State) (out : List ℕ) (size : ℕ) → size_for s (length m) (length out) ≡ Ok size → Ready s m out size
+run_ready m s out size is = go (well_formed s) refl (ltb (length out) (needed s)) refl (ltb (length m) s.place.at) refl
+  where
+    go : (well : Bool) → well_formed s ≡ well → (short : Bool) → ltb (length out) (needed s) ≡ short
+        → (past : Bool) → ltb (length m) s.place.at ≡ past → Ready s m out size
+    go false w short sh past p = let at : Err bad_state ≡ Ok size = rw w at is in cc
+    go true w true sh past p = let at : Err (OutputBufferTooSmall (length out) (needed s)) ≡ Ok size = rw (w, sh) at is in cc
+    go true w false sh true p = let at : Err ended_early ≡ Ok size = rw (w, sh, p) at is in cc
+    go true w false sh false p =
+        let at : Ok (needed s) ≡ Ok size = rw (w, sh, p) at is in
+        let same : size ≡ needed s = cc in
+        record {
+          well = subst T (sym w) tt;
+          counted = same;
+          room = rw same (ltb-false _ _ sh);
+          inside = ltb-false _ _ p;
+        }
 
 -- what a run answers, by what its walk into the part of the output from a place on answers
 module _ (header : Header) (number wanted : ℕ) (m out : List ℕ) (from : ℕ) (w : Walk) (r : Ran)
@@ -370,20 +378,23 @@ module _ (header : Header) (number wanted : ℕ) (m out : List ℕ) (from : ℕ)
   back : left_out ≡ take from out ++ w.out
   back = put_rest out w.out from fits
 
-  -- a chunk is cut short
-  pub answers_cut : w.cut ≡ true → ended (refused ended_early) (state_left header number wanted w.place left) left_out ≡ r
-  answers_cut short = rw (back, is-left) (sym (rw short at ran))
-
-  -- no step is left
-  pub answers_more : w.cut ≡ false → w.spare ≡ 0 → going (state_left header number wanted w.place left) left_out ≡ r
+  -- a chunk is cut short, no step is left, or the marker test is due
+  pub answers :
+      (size : ℕ) → size ≡ size_wanted header wanted
+      → ran_by (walk_answer w.cut w.spare (closing size m w.place.at)) (state_left header number wanted w.place left) left_out ≡ r
   unfolding stood
-  answers_more whole none = rw (back, is-left) (sym (rw (whole, none) at ran))
+  answers size counted = rw (back, is-left, counted) (go w.cut w.spare ∙ sym ran)
+    where
+      s : State
+      s = state_at header number wanted w.place
 
-  -- the marker test
-  pub answers_end :
-      w.cut ≡ false → (w.spare ≡ 0 → ⊥) → (size : ℕ) → size ≡ size_wanted header wanted
-      → (a : StepAnswer) → a ≡ end_answer (closing size m w.place.at) → ran_by a (state_left header number wanted w.place left) left_out ≡ r
-  answers_end whole some size counted a is =
-      rw (back, is-left, is, counted)
-      (end_ran (closing (size_wanted header wanted) m w.place.at) (state_at header number wanted w.place) (take from out ++ w.out)
-      ∙ sym (rw whole at ran ∙ stood_end header wanted m w.spare (state_at header number wanted w.place) (take from out ++ w.out) some))
+      whole : List ℕ
+      whole = take from out ++ w.out
+
+      go :
+          (cut : Bool) (spare : ℕ)
+          → ran_by (walk_answer cut spare (closing (size_wanted header wanted) m w.place.at)) s whole
+          ≡ cond cut (ended (refused ended_early) s whole) (stood header wanted m spare s whole)
+      go true spare = refl
+      go false zero = refl
+      go false (suc n) = end_ran (closing (size_wanted header wanted) m w.place.at) s whole

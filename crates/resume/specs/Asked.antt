@@ -1,28 +1,55 @@
 -- What the crate's own parts ask of one another; nothing that a public contract cites.
-use Rattle.std.specs.Prelude.{◌≡◌, List, ◌||◌, ℕ, ◌≤◌, T, eqb, length}
-use Rattle.number.specs.Seven.{read_number}
-use Rattle.header.specs.declared.Header.{Header}
-use Rattle.rules.specs.Reading.{size_wanted}
-use Rattle.rules.specs.Step.{State, well_formed, Started}
-use Rattle.rules.specs.Record.{after_number, read_slots}
+use Rattle.std.specs.Prelude.{◌≡◌, Bool, cond, List, ℕ, zero, suc, ◌+◌, ◌≤◌, T, ltb, length, take, drop, Result, Ok, Err}
+use Rattle.std.specs.Borrow.{Bor}
+use Rattle.pixel.specs.Refusal.{bad_state, ended_early}
+use Rattle.pixel.specs.declared.error.Error.{Error}
+use Rattle.pixel.specs.declared.error.Error.TheVariants.{UnexpectedBufferEnd, OutputBufferTooSmall}
+use Rattle.number.specs.declared.Number.{Number}
+use Rattle.rules.specs.Reading.{Answer, size_wanted}
+use Rattle.rules.specs.Step.{State, well_formed}
+use Rattle.resume.specs.declared.Progress.{Progress}
+use Rattle.resume.specs.declared.Progress.TheVariants.{More}
+use Rattle.resume.specs.Run.{end_answer}
 
--- a record from its pixel position on, which starts at an offset
-abbrev pub from_pixel : ℕ → Header → ℕ → List ℕ → ℕ → ℕ → Started
-from_pixel expected header wanted bytes at start =
-    after_number start (read_number bytes start) (λ pixel last. read_slots expected header wanted at pixel bytes last)
+-- the number of an answer
+abbrev pub value_of : Result Number Error → Result ℕ Error
+value_of (Ok number) = Ok number.value
+value_of (Err e) = Err e
 
--- a record from its byte position on
-abbrev pub from_at : ℕ → Header → ℕ → List ℕ → ℕ → Started
-from_at expected header wanted bytes start =
-    after_number start (read_number bytes start) (from_pixel expected header wanted bytes)
+-- and the bytes that it took
+abbrev pub used_of : Result Number Error → ℕ
+used_of (Ok number) = number.used
+used_of (Err e) = 0
 
--- wanted is 3 or 4
-abbrev pub WantedFits : ℕ → Type 0
-WantedFits wanted = T (eqb wanted 3 || eqb wanted 4)
+-- the bytes of a part that is handed over
+abbrev pub part_of : Result (Bor (List ℕ)) Error → Result (List ℕ) Error
+part_of (Ok part) = Ok part.now
+part_of (Err e) = Err e
+
+-- so many bytes from a place on; cut short they are 1 there
+abbrev pub next_bytes : List ℕ → ℕ → ℕ → Result (List ℕ) Error
+next_bytes bytes at size = cond (ltb (length bytes) (at + size)) (Err (UnexpectedBufferEnd at)) (Ok (take size (drop at bytes)))
 
 -- a state that a run goes on from: well formed, with room for the picture, its byte position within the message
-pub record Ready (s : State) (message out : List ℕ) (required : ℕ) : Type 0 where
+pub record Ready (s : State) (message out : List ℕ) (size : ℕ) : Type 0 where
   pub well : T (well_formed s)
-  pub counted : required ≡ size_wanted s.header s.wanted
-  pub room : required ≤ length out
+  pub counted : size ≡ size_wanted s.header s.wanted
+  pub room : size ≤ length out
   pub inside : s.place.at ≤ length message
+
+-- the picture's size, where a run may go on in a message and an output of these sizes: 9, 7, 1
+abbrev pub size_for : State → ℕ → ℕ → Result ℕ Error
+size_for s message room =
+    cond (well_formed s)
+    (cond (ltb room (size_wanted s.header s.wanted)) (Err (OutputBufferTooSmall room (size_wanted s.header s.wanted)))
+    (cond (ltb message s.place.at) (Err ended_early) (Ok (size_wanted s.header s.wanted))))
+    (Err bad_state)
+
+-- with no step left there is more to do; else the marker test was one
+abbrev pub spare_answer : ℕ → Answer → Result Progress Error
+spare_answer zero closing = Ok More
+spare_answer (suc n) closing = end_answer closing
+
+-- what a walk answers: a chunk is cut short, no step is left, or else the marker test
+abbrev pub walk_answer : Bool → ℕ → Answer → Result Progress Error
+walk_answer cut spare closing = cond cut (Err ended_early) (spare_answer spare closing)

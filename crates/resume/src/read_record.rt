@@ -1,231 +1,108 @@
-// Reading a record, left to right: each part answers its own refusals, with the offset of the field that is cut or has
-// the fault, and hands on where the next part starts. The number that the message is expected to have goes with it.
-ghost use Rattle.std.specs.Prelude.{◌≡◌, ◌+◌, ◌-◌, ◌≤◌, length, drop};
-ghost use Rattle.header.specs.declared.HeaderRead.TheVariants as header_read;
-ghost use Rattle.header.specs.Header.{pixel_count};
+// Reading a record, left to right: a refusal carries the offset of the field that is cut or has the fault.
+ghost use Rattle.std.specs.Prelude.{◌≡◌, ◌≤◌, length};
 ghost use Rattle.pixel.specs.Bytes.{pixel_from, pixels_from};
-ghost use Rattle.rules.specs.Record.{read_wanted as read_wanted_of, read_positions as read_positions_of, read_slots as read_slots_of, accept_state, fault_offset as fault_offset_of, accept_number as accept_number_of};
-ghost use Rattle.resume.specs.Asked.{from_at, from_pixel};
-ghost use Rattle.resume.specs.State.{state_of, Answers};
+ghost use Rattle.rules.specs.Record.{read_record as read_record_of, accept_state, fault_offset};
+ghost use Rattle.resume.specs.State.{state_of, started_of, Answers};
 
-use crate::{Decoder, Slots, StartAnswer, Started, start, well_formed};
+use crate::reader::Reader;
+use crate::{Decoder, Slots, Started};
 use header::Header;
-use number::NumberRead;
 use pixel::Pixel;
 use pixel::consts::QOI_HEADER_SIZE;
 use pixel::error::Error;
-use pixel::types::{Channels, ChannelsRead};
+use pixel::types::Channels;
 
-// The channels wanted.
-pub fn read_wanted(old: Decoder, expected: u64, header: Header, bytes: &[u8]) -> Started
-    ensures { Answers (read_wanted_of expected (header_read.Ok header) bytes.now) old result }
-{
-    match number::read(bytes, QOI_HEADER_SIZE) {
-        NumberRead::Refused(e) => start::refused(old, e),
-        NumberRead::Number { value, used } => read_positions(
-            old,
-            expected,
-            header,
-            Channels::try_from(value),
-            bytes,
-            QOI_HEADER_SIZE + used,
-        ),
+impl Decoder {
+    // The state that a record holds, if it is of the message with this number.
+    pub fn take_up(self, number: u64, record: &[u8]) -> Started
+        ensures { Answers (read_record_of number «record».now) self result }
+    {
+        self.or_started(read_record(number, record))
     }
-}
 
-// 2 for wanted other than 3 or 4.
-fn read_positions(
-    old: Decoder,
-    expected: u64,
-    header: Header,
-    wanted: ChannelsRead,
-    bytes: &[u8],
-    start: usize,
-) -> Started
-    ensures { Answers (read_positions_of expected header wanted bytes.now start) old result }
-{
-    match wanted {
-        ChannelsRead::Refused(e) => start::refused(old, e),
-        ChannelsRead::Ok(channels) => read_byte_position(
-            old,
-            expected,
-            header,
-            channels.as_u8() as u64,
-            bytes,
-            start,
-        ),
-    }
-}
-
-// The byte position.
-fn read_byte_position(
-    old: Decoder,
-    expected: u64,
-    header: Header,
-    wanted: u64,
-    bytes: &[u8],
-    start: usize,
-) -> Started
-    ensures { Answers (from_at expected header wanted bytes.now start) old result }
-{
-    match number::read(bytes, start) {
-        NumberRead::Refused(e) => start::refused(old, e),
-        NumberRead::Number { value, used } => {
-            let at = value as usize;
-            read_pixel_position(old, expected, header, wanted, at, bytes, start + used)
+    // The faults of state, then bytes after the number, which ends at `end` in a record of this size; last of all, the
+    // number of another message.
+    fn accept(self, expected: u64, end: usize, size: usize) -> Result<Self, Error>
+        ensures { started_of result ≡ accept_state expected (state_of self) end size }
+    {
+        if !self.is_well_formed() {
+            return Err(Error::BadState {
+                at: self.fault_offset(),
+            });
         }
-    }
-}
-
-// The pixel position.
-fn read_pixel_position(
-    old: Decoder,
-    expected: u64,
-    header: Header,
-    wanted: u64,
-    at: usize,
-    bytes: &[u8],
-    start: usize,
-) -> Started
-    ensures { Answers (from_pixel expected header wanted bytes.now at start) old result }
-{
-    match number::read(bytes, start) {
-        NumberRead::Refused(e) => start::refused(old, e),
-        NumberRead::Number { value, used } => {
-            let pixel = value as usize;
-            read_slots(
-                old,
-                expected,
-                header,
-                wanted,
-                at,
-                pixel,
-                bytes,
-                start + used,
-            )
+        if end != size {
+            return Err(Error::BadState { at: end });
         }
-    }
-}
-
-// The current pixel and the slots, then the message's number.
-fn read_slots(
-    old: Decoder,
-    expected: u64,
-    header: Header,
-    wanted: u64,
-    at: usize,
-    pixel: usize,
-    bytes: &[u8],
-    start: usize,
-) -> Started
-    requires { start ≤ length bytes.now }
-    ensures { Answers (read_slots_of expected header wanted at pixel bytes.now start) old result }
-{
-    let left = bytes.len() - start;
-    if left < 4 {
-        return start::refused(old, Error::UnexpectedBufferEnd { at: start });
-    }
-    if left < 260 {
-        return start::refused(old, Error::UnexpectedBufferEnd { at: start + 4 });
-    }
-    match number::read(bytes, start + 260) {
-        NumberRead::Refused(e) => start::refused(old, e),
-        NumberRead::Number { value, used } => {
-            let current = pixel_at(bytes, start);
-            let slots = slots_from(&bytes[start + 4..]);
-            let decoder = Decoder {
-                header,
-                wanted,
-                at,
-                pixel,
-                left: left_from(header, pixel),
-                current,
-                slots,
-                number: value,
-            };
-            accept(old, expected, decoder, start + 260 + used, bytes.len())
+        if self.number != expected {
+            return Err(Error::OtherMessage {
+                number: self.number,
+            });
         }
+        Ok(self)
+    }
+
+    // Where the record has the first field with a fault of state: byte position, pixel position, or else the current
+    // pixel.
+    #[tactic(auto, using(number::proofs::Laws::length_at_most_ten))]
+    fn fault_offset(self) -> usize
+        ensures { result ≡ fault_offset (state_of self) }
+    {
+        let at_offset = QOI_HEADER_SIZE + number::len(self.wanted);
+        if self.at < QOI_HEADER_SIZE {
+            return at_offset;
+        }
+        let pixel_offset = at_offset + number::len(self.at as u64);
+        if self.header.n_pixels() < self.pixel {
+            return pixel_offset;
+        }
+        pixel_offset + number::len(self.pixel as u64)
     }
 }
 
-// The pixels left at a pixel position; past the picture none, and such a state is refused.
-fn left_from(header: Header, pixel: usize) -> usize
-    ensures { result ≡ pixel_count header - pixel }
+// The state that a record of the message with the number expected holds.
+fn read_record(expected: u64, bytes: &[u8]) -> Result<Decoder, Error>
+    ensures { started_of result ≡ read_record_of expected bytes.now }
 {
-    let pixels = header.n_pixels();
-    if pixels < pixel {
-        return 0;
-    }
-    pixels - pixel
-}
-
-// The faults of state, then bytes after the number, which ends at `end` in a record of this size.
-fn accept(old: Decoder, expected: u64, decoder: Decoder, end: usize, size: usize) -> Started
-    ensures { Answers (accept_state expected (state_of decoder) end size) old result }
-{
-    if !well_formed::well_formed(decoder) {
-        return start::refused(
-            old,
-            Error::BadState {
-                at: fault_offset(decoder),
-            },
-        );
-    }
-    if end != size {
-        return start::refused(old, Error::BadState { at: end });
-    }
-    accept_number(old, expected, decoder)
-}
-
-// Where the record has the first field with a fault of state: byte position, pixel position, or else the current pixel.
-fn fault_offset(decoder: Decoder) -> usize
-    ensures { result ≡ fault_offset_of (state_of decoder) }
-{
-    let at_offset = QOI_HEADER_SIZE + number::len(decoder.wanted);
-    if decoder.at < QOI_HEADER_SIZE {
-        return at_offset;
-    }
-    let pixel_offset = at_offset + number::len(decoder.at as u64);
-    let header = decoder.header;
-    if header.n_pixels() < decoder.pixel {
-        return pixel_offset;
-    }
-    pixel_offset + number::len(decoder.pixel as u64)
-}
-
-// Last of all, the number of another message.
-fn accept_number(old: Decoder, expected: u64, decoder: Decoder) -> Started
-    ensures { Answers (accept_number_of expected (state_of decoder)) old result }
-{
-    let found = decoder.number;
-    if found != expected {
-        return start::refused(old, Error::OtherMessage { number: found });
-    }
-    Started {
-        answer: StartAnswer::Ok,
-        decoder,
-    }
+    let header = Header::decode(bytes)?;
+    let mut record = Reader {
+        bytes,
+        at: QOI_HEADER_SIZE,
+    };
+    let wanted = Channels::try_from(record.number()?)?;
+    let at = record.number()? as usize;
+    let pixel = record.number()? as usize;
+    let current = record.bytes(4)?;
+    let slots = record.bytes(256)?;
+    let number = record.number()?;
+    let decoder = Decoder {
+        header,
+        wanted: u64::from(wanted.as_u8()),
+        at,
+        pixel,
+        left: header.n_pixels().saturating_sub(pixel),
+        current: pixel_of(current),
+        slots: slots_of(slots),
+        number,
+    };
+    decoder.accept(expected, record.at, bytes.len())
 }
 
 // 64 pixels of four bytes each.
-fn slots_from(bytes: &[u8]) -> Slots
+fn slots_of(bytes: &[u8]) -> Slots
     requires { 256 ≤ length bytes.now }
     ensures { result ≡ pixels_from 64 4 bytes.now }
 {
-    let clear = Pixel::clear();
-    let mut slots = [clear; 64];
-    let mut i: usize = 0;
-    while i < 64 {
-        slots[i] = pixel_at(bytes, i * 4);
-        i += 1;
+    let mut slots = [Pixel::clear(); 64];
+    for i in 0..64 {
+        slots[i] = pixel_of(&bytes[i * 4..]);
     }
     slots
 }
 
-// The pixel of the four bytes at a place.
-fn pixel_at(bytes: &[u8], at: usize) -> Pixel
-    requires { at + 4 ≤ length bytes.now }
-    ensures { result ≡ pixel_from 4 (drop at bytes.now) }
+// The pixel that some bytes start with.
+fn pixel_of(bytes: &[u8]) -> Pixel
+    requires { 4 ≤ length bytes.now }
+    ensures { result ≡ pixel_from 4 bytes.now }
 {
-    Pixel::new(bytes[at], bytes[at + 1], bytes[at + 2], bytes[at + 3])
+    Pixel::new(bytes[0], bytes[1], bytes[2], bytes[3])
 }

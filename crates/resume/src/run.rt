@@ -1,135 +1,128 @@
 // A run of steps: the tests of state, output and message, the walk over the chunks, and the marker.
 ghost use Rattle.std.specs.Prelude.{◌≡◌, ◌≤◌, length};
-ghost use Rattle.pixel.specs.Types.{channels_number};
 ghost use Rattle.rules.specs.Reading.{closing};
 ghost use Rattle.rules.specs.Step.{running};
-ghost use Rattle.resume.specs.Asked.{Ready, WantedFits};
-ghost use Rattle.resume.specs.Run.{ran_of, end_answer};
+ghost use Rattle.resume.specs.Asked.{Ready, size_for, walk_answer};
+ghost use Rattle.resume.specs.Run.{ran_of, one_step};
 ghost use Rattle.resume.specs.State.{state_of};
 
-use crate::{Decoder, StepAnswer, Stepped, well_formed};
-use chunk::Ending;
+use crate::{Decoder, Progress, Stepped};
+use pixel::consts::QOI_PADDING_SIZE;
 use pixel::error::Error;
 use pixel::types::Channels;
-use walk::Place;
+use walk::{Place, Walked};
 
-// At most `steps` steps: 9, 7, 1 for a byte position past the message, then the chunks.
-pub fn run(decoder: Decoder, message: &[u8], out: &mut [u8], steps: u64) -> Stepped
-    ensures { ran_of result out.new ≡ running message.now steps (state_of decoder) out.old }
-{
-    if steps == 0 {
-        return Stepped {
-            answer: StepAnswer::More,
-            decoder,
-        };
+impl Decoder {
+    // One chunk (one pixel for an ff that is not consumed) or, with no pixel left, the marker test.
+    pub fn step(self, message: &[u8], out: &mut [u8]) -> Stepped
+        ensures { ran_of result out.new ≡ one_step message.now (state_of self) out.old }
+    {
+        self.run(message, out, 1)
     }
-    if !well_formed::well_formed(decoder) {
-        return Stepped {
-            answer: StepAnswer::Refused(Error::BadState { at: 0 }),
-            decoder,
-        };
+
+    // At most `steps` steps: what a worker does between two checkpoints.
+    pub fn run(self, message: &[u8], out: &mut [u8], steps: u64) -> Stepped
+        ensures { ran_of result out.new ≡ running message.now steps (state_of self) out.old }
+    {
+        if steps == 0 {
+            return Stepped {
+                answer: Ok(Progress::More),
+                decoder: self,
+            };
+        }
+        match self.picture_size(message.len(), out.len()) {
+            Ok(size) => self.go_on(message, out, steps as usize, size),
+            Err(e) => Stepped {
+                answer: Err(e),
+                decoder: self,
+            },
+        }
     }
-    let required = (decoder.pixel + decoder.left) * (decoder.wanted as usize);
-    if out.len() < required {
-        return Stepped {
-            answer: StepAnswer::Refused(Error::OutputBufferTooSmall {
-                size: out.len(),
+
+    // The bytes of the whole picture, where state, message and output are such that a run may go on.
+    fn picture_size(self, message: usize, room: usize) -> Result<usize, Error>
+        ensures { result ≡ size_for (state_of self) message room }
+    {
+        if !self.is_well_formed() {
+            return Err(Error::BadState { at: 0 });
+        }
+        let required = self.required_buf_len();
+        if room < required {
+            return Err(Error::OutputBufferTooSmall {
+                size: room,
                 required,
-            }),
-            decoder,
-        };
+            });
+        }
+        if message < self.at {
+            return Err(Error::UnexpectedBufferEnd { at: 0 });
+        }
+        Ok(required)
     }
-    if message.len() < decoder.at {
-        return Stepped {
-            answer: StepAnswer::Refused(Error::UnexpectedBufferEnd { at: 0 }),
-            decoder,
-        };
+
+    // The chunks, into the part of the output that starts at the pixel position, so that what stands before it cannot be
+    // harmed.
+    fn go_on(self, message: &[u8], out: &mut [u8], steps: usize, size: usize) -> Stepped
+        requires { Ready (state_of self) message.now out.old size }
+        ensures { ran_of result out.new ≡ running message.now steps (state_of self) out.old }
+    {
+        let Decoder {
+            at,
+            pixel,
+            left,
+            current,
+            slots,
+            ..
+        } = self;
+        let from = pixel * self.wanted as usize;
+        let walked = walk::walk(
+            message,
+            self.header,
+            Channels::try_from(self.wanted).unwrap(),
+            Place {
+                at,
+                pixel,
+                current,
+                slots,
+            },
+            left,
+            &mut out[from..],
+            steps.min(left + 1),
+        );
+        let Place {
+            at,
+            pixel,
+            current,
+            slots,
+        } = walked.place;
+        Stepped {
+            answer: answer(walked, message, size),
+            decoder: Decoder {
+                at,
+                pixel,
+                left: self.header.n_pixels() - pixel,
+                current,
+                slots,
+                ..self
+            },
+        }
     }
-    go_on(decoder, message, out, steps as usize, required)
 }
 
-// The chunks, into the part of the output that starts at the pixel position, so that what stands before it cannot be
-// harmed.
-fn go_on(decoder: Decoder, message: &[u8], out: &mut [u8], steps: usize, required: usize) -> Stepped
-    requires { Ready (state_of decoder) message.now out.old required }
-    ensures { ran_of result out.new ≡ running message.now steps (state_of decoder) out.old }
+// What a walk comes to: a chunk is cut short, no step is left, or else the marker test is due.
+fn answer(walked: Walked, message: &[u8], size: usize) -> Result<Progress, Error>
+    requires { walked.place.at ≤ length message.now }
+    ensures { result ≡ walk_answer walked.cut walked.spare (closing size message.now walked.place.at) }
 {
-    let header = decoder.header;
-    let wanted = decoder.wanted;
-    let pixel = decoder.pixel;
-    let current = decoder.current;
-    let slots = decoder.slots;
-    let place = Place {
-        at: decoder.at,
-        pixel,
-        current,
-        slots,
-    };
-    let left = decoder.left;
-    let pixels = pixel + left;
-    let channels = channels_of(wanted);
-    let from = pixel * (wanted as usize);
-    let walked = walk::walk(
-        message,
-        header,
-        channels,
-        place,
-        left,
-        &mut out[from..],
-        walk::least(steps, left + 1),
-    );
-    let end = walked.place;
-    let last = end.current;
-    let held = end.slots;
-    let still = pixels - end.pixel;
-    let next = Decoder {
-        header,
-        wanted,
-        at: end.at,
-        pixel: end.pixel,
-        left: still,
-        current: last,
-        slots: held,
-        number: decoder.number,
-    };
     if walked.cut {
-        return Stepped {
-            answer: StepAnswer::Refused(Error::UnexpectedBufferEnd { at: 0 }),
-            decoder: next,
-        };
+        return Err(Error::UnexpectedBufferEnd { at: 0 });
     }
     if walked.spare == 0 {
-        return Stepped {
-            answer: StepAnswer::More,
-            decoder: next,
-        };
+        return Ok(Progress::More);
     }
-    Stepped {
-        answer: close(message, end.at, required),
-        decoder: next,
-    }
-}
-
-// The marker test.
-fn close(message: &[u8], at: usize, size: usize) -> StepAnswer
-    requires { at ≤ length message.now }
-    ensures { result ≡ end_answer (closing size message.now at) }
-{
-    match chunk::read_end(&message[at..]) {
-        Ending::Cut => StepAnswer::Refused(Error::UnexpectedBufferEnd { at: 0 }),
-        Ending::Wrong => StepAnswer::Refused(Error::InvalidPadding),
-        Ending::Marker => StepAnswer::Done { size, used: at + 8 },
-    }
-}
-
-// The channels that a well-formed state wants.
-fn channels_of(wanted: u64) -> Channels
-    requires { WantedFits wanted }
-    ensures { channels_number result ≡ wanted }
-{
-    if wanted == 3 {
-        Channels::Rgb
-    } else {
-        Channels::Rgba
-    }
+    let at = walked.place.at;
+    chunk::read_end(&message[at..])?;
+    Ok(Progress::Done {
+        size,
+        used: at + QOI_PADDING_SIZE,
+    })
 }

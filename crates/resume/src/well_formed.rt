@@ -1,32 +1,21 @@
 // The test of a state.
 ghost use Rattle.std.specs.Prelude.{◌≡◌};
-ghost use Rattle.rules.specs.Step.{well_formed as well_formed_of};
+ghost use Rattle.rules.specs.Step.{well_formed};
 ghost use Rattle.resume.specs.State.{state_of};
 
 use crate::Decoder;
 use pixel::consts::QOI_HEADER_SIZE;
 
-// Whether a state is well formed.
-pub fn well_formed(decoder: Decoder) -> bool
-    ensures { result ≡ well_formed_of (state_of decoder) }
-{
-    let header = decoder.header;
-    if !header.dimensions_fit() {
-        return false;
+impl Decoder {
+    // Whether the state is well formed.
+    pub(crate) fn is_well_formed(self) -> bool
+        ensures { result ≡ well_formed (state_of self) }
+    {
+        let pixels = self.header.n_pixels();
+        self.header.dimensions_fit()
+            && QOI_HEADER_SIZE <= self.at
+            && self.pixel <= pixels
+            && self.left == pixels - self.pixel
+            && (self.wanted == 4 || self.wanted == 3 && self.current.a() == 255)
     }
-    if decoder.at < QOI_HEADER_SIZE {
-        return false;
-    }
-    let pixels = header.n_pixels();
-    if pixels < decoder.pixel {
-        return false;
-    }
-    if decoder.left != pixels - decoder.pixel {
-        return false;
-    }
-    if decoder.wanted == 3 {
-        let current = decoder.current;
-        return current.a() == 255;
-    }
-    decoder.wanted == 4
 }
