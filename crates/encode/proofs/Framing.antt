@@ -1,12 +1,10 @@
 -- Header, chunks and marker put one after another are the stream.
 -- Assumes nothing.
-use mathlib.Core.Path.{◌≡◌, refl, sym, ◌∙◌, ap}
+use mathlib.Core.Path.{◌≡◌, refl, sym, ap}
 use mathlib.Core.List.{List, [], ◌++◌, append-nil}
-use Prim.Native.Nat.{ℕ, ◌+◌, ◌-◌, ◌≤◌}
-use native.Mathlib.Nat.{zero-add}
+use Prim.Native.Nat.{ℕ, ◌+◌, ◌≤◌}
 use native.Mathlib.Omega.{arith}
-use lib.ListN.{length, drop}
-use borrow.Rule.Slice.PartMut.{put_mid, Post-is}
+use lib.ListN.{length}
 use Rattle.pixel.specs.Types.{channels_number}
 use Rattle.header.specs.declared.Header.{Header}
 use Rattle.header.specs.Header.{pixel_count, header_bytes}
@@ -30,31 +28,22 @@ module _ (header : Header) (pixels out : List ℕ) (f : Framed header pixels out
       reworded (ap (λ (l : List ℕ). l ++ (chunk_bytes_of ++ marker)) (sym is))
       (record { long = refl; room = omega (arith, f.room); ends = refl; makes = refl })
 
-  pub fourteen_long : length fourteen ≡ 14
-  fourteen_long = ap length is ∙ header_length header
-
   pub header_fits : 14 ≤ length out
-  header_fits = omega (arith, first_fits fourteen _ header_pending, fourteen_long)
+  header_fits = omega (arith, first_fits fourteen _ header_pending, ap length is, header_length header)
 
-  module _ {first : List ℕ} (copied : first ≡ fourteen) where
-    chunks_pending : Left 14 (chunk_bytes_of ++ marker) (first ++ drop 14 out)
-    chunks_pending =
-        advance fourteen _ header_pending 14 (first ++ drop 14 out)
-        (sym fourteen_long ∙ sym (zero-add (length fourteen)), rw (copied, fourteen_long) refl)
+  module _ {start : ℕ} {out₁ : List ℕ} (begun : Puts 0 fourteen out start out₁) where
+    chunks_pending : Left start (chunk_bytes_of ++ marker) out₁
+    chunks_pending = advance fourteen _ header_pending start out₁ begun
 
-    pub chunks_fit : Fits pixels (pixel_count header) (channels_number header.channels) (first ++ drop 14 out) 14
+    pub chunks_fit : Fits pixels (pixel_count header) (channels_number header.channels) out₁ start
     chunks_fit = record { many = f.many; room = first_fits chunk_bytes_of marker chunks_pending }
 
-    module _ {end : ℕ} {out₂ : List ℕ} (put : Puts 14 chunk_bytes_of (first ++ drop 14 out) end out₂) where
+    module _ {end : ℕ} {out₂ : List ℕ} (put : Puts start chunk_bytes_of out₁ end out₂) where
       marker_pending : Left end (marker ++ []) out₂
       marker_pending = reworded (sym (append-nil marker)) (advance chunk_bytes_of marker chunks_pending end out₂ put)
 
       pub marker_fits : end + 8 ≤ length out₂
       marker_fits = first_fits marker [] marker_pending
 
-      module _ {part : List ℕ} (last : part ≡ marker) where
-        pub framed : Puts 0 (stream_of header pixels) out (end + 8) (put_mid end (end + 8 - end) out₂ part)
-        framed =
-            ended_at
-            (advance marker [] marker_pending _ _
-            (refl, rw (last, Post-is end (end + 8) out₂ (omega arith)) refl))
+      pub framed : {after : ℕ} {out₃ : List ℕ} → Puts end marker out₂ after out₃ → Puts 0 (stream_of header pixels) out after out₃
+      framed closed = ended_at (advance marker [] marker_pending _ _ closed)

@@ -4,9 +4,9 @@
 use mathlib.Core.Path.{◌≡◌, refl, sym, ◌∙◌, ap}
 use mathlib.Core.Bool.{Bool, true, false, cond, ◌&&◌}
 use mathlib.Core.List.{List, [], ◌∷◌, ◌++◌, append-nil, append_assoc, map}
-use Prim.Native.Nat.{ℕ, zero, suc, ◌+◌, ◌-◌, ◌/◌, ◌%◌, ◌<◌}
+use Prim.Native.Nat.{ℕ, zero, suc, ◌+◌, ◌-◌, ◌/◌, ◌%◌, ◌<◌, ◌≤◌}
 use native.Mathlib.Omega.{arith}
-use borrow.Author.Tests.{ltb-true, lt-ltb, eqb-true, eq-eqb, ne_eqb}
+use borrow.Author.Tests.{ltb-true, ltb-false, lt-ltb, eqb-true, eq-eqb, ne_eqb}
 use lib.Dec.{ltb, eqb}
 use lib.ListN.{get_or, set, replicate, get_or-map}
 use Rattle.pixel.specs.declared.Pixel.{Pixel}
@@ -17,24 +17,24 @@ use Rattle.rules.specs.Chunk.{Chunk, INDEX, RUN}
 use Rattle.rules.specs.Encode.{Pen, start_pen, run_ended, slot_holds, differing_chunk, colour_chunk, pixel_chunks, with_run, with_pixel, pen_after, chunks_from, chunk_bytes, chunks_bytes}
 use Rattle.rules.proofs.ChunkLaws.{slot_small}
 use Rattle.rules.proofs.EncodeLaws.{and_split}
-use Rattle.encode.specs.Asked.{ended_byte, ended_bytes}
+use Rattle.encode.specs.Asked.{ended_bytes}
 
--- the pen that the locals are; the slot is 64 where no pixel differed before
+-- the pen that the locals are; a run of one is RUN where no pixel differed before
 abbrev pub pen_of : List ℕ → ℕ → ℕ → ℕ → Pen
-pen_of slots previous run slot =
-    record { slots = map unpacked slots; previous = unpacked previous; run = run; differed = ltb slot 64 }
+pen_of slots previous run single =
+    record { slots = map unpacked slots; previous = unpacked previous; run = run; differed = ltb single 64 }
 
 -- the chunks of the pixels still to come; a run that no pixel follows is still to be written
 unfoldable pub held : Pen → List Pixel → List Chunk
 held pen [] = cond (eqb pen.run 0) [] (RUN pen.run ∷ [])
 held pen (p ∷ ps) = chunks_from pen (p ∷ ps)
 
-start_pen_lem : start_pen ≡ pen_of (replicate 64 0) 0xff000000 0 64
+start_pen_lem : start_pen ≡ pen_of (replicate 64 0) 0xff000000 0 0xc0
 unfolding start_pen unpacked
 start_pen_lem = refl
 
 -- before the first pixel
-pub start_held : (ps : List Pixel) → chunks_from start_pen ps ≡ held (pen_of (replicate 64 0) 0xff000000 0 64) ps
+pub start_held : (ps : List Pixel) → chunks_from start_pen ps ≡ held (pen_of (replicate 64 0) 0xff000000 0 0xc0) ps
 unfolding held chunks_from
 start_held [] = refl
 start_held (p ∷ ps) = ap (λ (pen : Pen). chunks_from pen (p ∷ ps)) start_pen_lem
@@ -98,9 +98,9 @@ map_set (x ∷ xs) (suc i) v = ap (λ (l : List Pixel). unpacked x ∷ l) (map_s
 
 -- a differing pixel in its slot
 pub with_packed :
-    (slots : List ℕ) (previous run slot p s : ℕ) → s ≡ slot_of (unpacked p)
-    → with_pixel (pen_of slots previous run slot) (unpacked p) ≡ pen_of (set slots s p) p 0 s
-with_packed slots previous run slot p s is =
+    (slots : List ℕ) (previous run single p s : ℕ) → s ≡ slot_of (unpacked p)
+    → with_pixel (pen_of slots previous run single) (unpacked p) ≡ pen_of (set slots s p) p 0 s
+with_packed slots previous run single p s is =
     let there : set (map unpacked slots) (slot_of (unpacked p)) (unpacked p) ≡ map unpacked (set slots s p) =
     ap (λ (n : ℕ). set (map unpacked slots) n (unpacked p)) (sym is) ∙ sym (map_set slots s p) in
     let low : s < 64 = rw is (slot_small (unpacked p)) in
@@ -109,52 +109,58 @@ with_packed slots previous run slot p s is =
 
 -- what a slot holds
 slot_holds_lem :
-    (slots : List ℕ) (previous run slot p s : ℕ) → s ≡ slot_of (unpacked p)
-    → slot_holds (pen_of slots previous run slot) (unpacked p) ≡ same_pixel (unpacked (get_or slots s 0)) (unpacked p)
+    (slots : List ℕ) (previous run single p s : ℕ) → s ≡ slot_of (unpacked p)
+    → slot_holds (pen_of slots previous run single) (unpacked p) ≡ same_pixel (unpacked (get_or slots s 0)) (unpacked p)
 unfolding slot_holds unpacked
-slot_holds_lem slots previous run slot p s is =
+slot_holds_lem slots previous run single p s is =
     ap (λ (q : Pixel). same_pixel q (unpacked p)) (ap (λ (n : ℕ). get_or (map unpacked slots) n clear_pixel) (sym is) ∙ at_slot)
   where
     at_slot : get_or (map unpacked slots) s clear_pixel ≡ unpacked (get_or slots s 0)
     at_slot = get_or-map unpacked slots s 0
 
 pub differing_index :
-    (slots : List ℕ) (previous run slot p s : ℕ) → s ≡ slot_of (unpacked p) → get_or slots s 0 ≡ p
-    → chunk_bytes (differing_chunk (pen_of slots previous run slot) (unpacked p)) ≡ s ∷ []
+    (slots : List ℕ) (previous run single p s : ℕ) → s ≡ slot_of (unpacked p) → get_or slots s 0 ≡ p
+    → chunk_bytes (differing_chunk (pen_of slots previous run single) (unpacked p)) ≡ s ∷ []
 unfolding differing_chunk chunk_bytes
-differing_index slots previous run slot p s is there =
-    rw (slot_holds_lem slots previous run slot p s is, same_yes (get_or slots s 0) p there, is)
+differing_index slots previous run single p s is there =
+    rw (slot_holds_lem slots previous run single p s is, same_yes (get_or slots s 0) p there, is)
 
 pub differing_colour :
-    (slots : List ℕ) (previous run slot p s : ℕ) → s ≡ slot_of (unpacked p) → p < 4294967296 → get_or slots s 0 < 4294967296 → (get_or slots s 0 ≡ p → ⊥)
-    → differing_chunk (pen_of slots previous run slot) (unpacked p) ≡ colour_chunk (unpacked previous) (unpacked p)
+    (slots : List ℕ) (previous run single p s : ℕ) → s ≡ slot_of (unpacked p) → p < 4294967296 → get_or slots s 0 < 4294967296 → (get_or slots s 0 ≡ p → ⊥)
+    → differing_chunk (pen_of slots previous run single) (unpacked p) ≡ colour_chunk (unpacked previous) (unpacked p)
 unfolding differing_chunk
-differing_colour slots previous run slot p s is hp hs other =
-    rw (slot_holds_lem slots previous run slot p s is, same_no (get_or slots s 0) p hs hp other)
+differing_colour slots previous run single p s is hp hs other =
+    rw (slot_holds_lem slots previous run single p s is, same_no (get_or slots s 0) p hs hp other)
+
+-- the byte of a run of one: INDEX of the previous pixel's slot, or RUN where no pixel differed before
+pub record Single (previous single : ℕ) : Type 0 where
+  pub index : single < 64 → single ≡ slot_of (unpacked previous)
+  pub run : 64 ≤ single → single ≡ 0xc0
 
 -- the bytes of a run that another pixel ends
 pub ended_bytes_lem :
-    (slots : List ℕ) (previous run slot : ℕ) → (slot < 64 → slot ≡ slot_of (unpacked previous))
-    → chunks_bytes (run_ended (pen_of slots previous run slot)) ≡ ended_bytes run slot
-unfolding run_ended ended_bytes ended_byte chunks_bytes chunk_bytes
-ended_bytes_lem slots previous run slot found = go (eqb run 0) (eqb run 1 && ltb slot 64) refl
+    (slots : List ℕ) (previous run single : ℕ) → Single previous single
+    → chunks_bytes (run_ended (pen_of slots previous run single)) ≡ ended_bytes run single
+unfolding run_ended chunks_bytes chunk_bytes
+ended_bytes_lem slots previous run single h = go (eqb run 0) (eqb run 1) (ltb single 64) refl refl
   where
     go :
-        (none single : Bool) → eqb run 1 && ltb slot 64 ≡ single
-        → chunks_bytes (cond none [] (cond single (INDEX (slot_of (unpacked previous)) ∷ []) (RUN run ∷ [])))
-        ≡ cond none [] (cond single slot (0xc0 + (run - 1)) ∷ [])
-    go true single e = refl
-    go false true e = rw (← found (ltb-true slot 64 (and_split (eqb run 1) (ltb slot 64) e).1))
-    go false false e = refl
+        (none one index : Bool) → eqb run 1 ≡ one → ltb single 64 ≡ index
+        → chunks_bytes (cond none [] (cond (one && index) (INDEX (slot_of (unpacked previous)) ∷ []) (RUN run ∷ [])))
+        ≡ cond none [] (cond one single (0xc0 + (run - 1)) ∷ [])
+    go true one index e d = refl
+    go false true true e d = rw (← h.index (ltb-true single 64 d))
+    go false true false e d = let r = eqb-true run 1 e in let s = h.run (omega (arith, ltb-false single 64 d)) in rw (r, s)
+    go false false index e d = refl
 
 -- and of one that no other pixel ends
-pub run_bytes : (run : ℕ) → chunks_bytes (cond (eqb run 0) [] (RUN run ∷ [])) ≡ ended_bytes run 64
-unfolding ended_bytes ended_byte chunks_bytes chunk_bytes
-run_bytes run = go (eqb run 0) (eqb run 1)
+pub run_bytes : (run : ℕ) → chunks_bytes (cond (eqb run 0) [] (RUN run ∷ [])) ≡ ended_bytes run 0xc0
+unfolding chunks_bytes chunk_bytes
+run_bytes run = go (eqb run 0) (eqb run 1) refl
   where
     go :
-        (none single : Bool)
-        → chunks_bytes (cond none [] (RUN run ∷ [])) ≡ cond none [] (cond (single && ltb 64 64) 64 (0xc0 + (run - 1)) ∷ [])
-    go true single = refl
-    go false true = refl
-    go false false = refl
+        (none one : Bool) → eqb run 1 ≡ one
+        → chunks_bytes (cond none [] (RUN run ∷ [])) ≡ cond none [] (cond one 0xc0 (0xc0 + (run - 1)) ∷ [])
+    go true one e = refl
+    go false true e = rw (eqb-true run 1 e)
+    go false false e = refl

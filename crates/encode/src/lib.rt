@@ -9,77 +9,55 @@ ghost use Rattle.rules.specs.Encode.{stream_of, picture_header, encoding, encodi
 ghost use Rattle.encode.specs.Asked.{Fits, Framed, picture_bytes};
 ghost use Rattle.encode.specs.Encoded.{encoder_of, Encodes};
 
-use header::{Header, HeaderRead};
+use header::Header;
 use pixel::consts::QOI_PADDING;
 use pixel::error::Error;
-use pixel::types::{Channels, ChannelsRead, ColorSpace, ColorSpaceRead};
+use pixel::types::{Channels, ColorSpace};
 
 mod colour;
-mod four;
+mod picture;
 mod put;
 mod run;
-mod three;
-
-#[derive(Clone, Copy)]
-pub enum Encoded {
-    // Bytes written: header, chunks and marker.
-    Done { size: usize },
-    Refused(Error),
-}
 
 // What a picture is encoded as.
-#[derive(Clone, Copy)]
+#[derive(Clone, Copy, Debug, PartialEq, Eq, Hash)]
 pub struct Encoder {
     pub header: Header,
 }
 
-#[derive(Clone, Copy)]
-pub enum EncoderRead {
-    Ok(Encoder),
-    Refused(Error),
-}
-
 impl Encoder {
     // For a picture of these dimensions: its length gives the channels, and the colour space is sRGB.
-    pub fn new(pixels: &[u8], width: u32, height: u32) -> EncoderRead
+    pub fn new(pixels: &[u8], width: u32, height: u32) -> Result<Self, Error>
         ensures { result ≡ encoder_of (picture_header pixels.now width height) }
     {
-        match Header::try_new(width, height, Channels::default(), ColorSpace::default()) {
-            HeaderRead::Refused(e) => EncoderRead::Refused(e),
-            HeaderRead::Ok(header) => {
-                let size = pixels.len();
-                let count = header.n_pixels();
-                if size % count != 0 {
-                    return EncoderRead::Refused(Error::InvalidImageLength {
-                        size,
-                        width,
-                        height,
-                    });
-                }
-                match Channels::try_from((size / count) as u64) {
-                    ChannelsRead::Refused(e) => EncoderRead::Refused(e),
-                    ChannelsRead::Ok(channels) => EncoderRead::Ok(Encoder {
-                        header: header.with_channels(channels),
-                    }),
-                }
-            }
+        let header = Header::try_new(width, height, Channels::default(), ColorSpace::default())?;
+        let size = pixels.len();
+        let count = header.n_pixels();
+        if size % count != 0 {
+            return Err(Error::InvalidImageLength {
+                size,
+                width,
+                height,
+            });
         }
+        let channels = Channels::try_from((size / count) as u64)?;
+        Ok(Encoder {
+            header: header.with_channels(channels),
+        })
     }
 
     pub fn with_colorspace(self, colorspace: ColorSpace) -> Self
         ensures { result ≡ record { header = with_color_space self.header colorspace } }
     {
-        let header = self.header;
         Encoder {
-            header: header.with_colorspace(colorspace),
+            header: self.header.with_colorspace(colorspace),
         }
     }
 
     pub fn channels(self) -> Channels
         ensures { result ≡ self.header.channels }
     {
-        let header = self.header;
-        header.channels
+        self.header.channels
     }
 
     pub fn header(self) -> Header
@@ -93,24 +71,22 @@ impl Encoder {
         ensures { result ≡ encoded_room self.header.width self.header.height
             (channels_number self.header.channels) }
     {
-        let header = self.header;
-        header.encode_max_len()
+        self.header.encode_max_len()
     }
 
     // Encodes the picture. Bytes of the output after the stream stay.
-    pub fn encode_to_buf(self, pixels: &[u8], out: &mut [u8]) -> Encoded
+    pub fn encode_to_buf(self, pixels: &[u8], out: &mut [u8]) -> Result<usize, Error>
         ensures { Encodes (encoding_under pixels.now (length out.old) self.header)
             out.old result out.new }
     {
         let header = self.header;
-        let width = header.width;
-        let height = header.height;
+        let Header { width, height, .. } = header;
         if !header.dimensions_fit() {
-            return Encoded::Refused(Error::InvalidImageDimensions { width, height });
+            return Err(Error::InvalidImageDimensions { width, height });
         }
         let given = pixels.len();
         if given != header.n_bytes() {
-            return Encoded::Refused(Error::InvalidImageLength {
+            return Err(Error::InvalidImageLength {
                 size: given,
                 width,
                 height,
@@ -119,33 +95,30 @@ impl Encoder {
         let size = out.len();
         let required = header.encode_max_len();
         if size < required {
-            return Encoded::Refused(Error::OutputBufferTooSmall { size, required });
+            return Err(Error::OutputBufferTooSmall { size, required });
         }
-        Encoded::Done {
-            size: write_stream(pixels, header, out),
-        }
+        Ok(write_stream(pixels, header, out))
     }
 }
 
 // Encodes a picture of three or four channels. Bytes of the output after the stream stay.
-pub fn encode(pixels: &[u8], width: u32, height: u32, colorspace: u64, out: &mut [u8]) -> Encoded
+pub fn encode(
+    pixels: &[u8],
+    width: u32,
+    height: u32,
+    colorspace: u64,
+    out: &mut [u8],
+) -> Result<usize, Error>
     ensures { Encodes (encoding pixels.now width height colorspace (length out.old))
         out.old result out.new }
 {
-    match Encoder::new(pixels, width, height) {
-        EncoderRead::Refused(e) => Encoded::Refused(e),
-        EncoderRead::Ok(plain) => match ColorSpace::try_from(colorspace) {
-            ColorSpaceRead::Refused(e) => Encoded::Refused(e),
-            ColorSpaceRead::Ok(space) => {
-                let encoder = plain.with_colorspace(space);
-                encoder.encode_to_buf(pixels, out)
-            }
-        },
-    }
+    let encoder = Encoder::new(pixels, width, height)?;
+    let space = ColorSpace::try_from(colorspace)?;
+    encoder.with_colorspace(space).encode_to_buf(pixels, out)
 }
 
 // The same in sRGB, with the arguments in the order of crate qoi.
-pub fn encode_to_buf(out: &mut [u8], pixels: &[u8], width: u32, height: u32) -> Encoded
+pub fn encode_to_buf(out: &mut [u8], pixels: &[u8], width: u32, height: u32) -> Result<usize, Error>
     ensures { Encodes (encoding pixels.now width height 0 (length out.old))
         out.old result out.new }
 {
@@ -157,14 +130,9 @@ fn write_stream(pixels: &[u8], header: Header, out: &mut [u8]) -> usize
     requires { Framed header pixels.now out.old }
     ensures { Puts 0 (stream_of header pixels.now) out.old result out.new }
 {
-    let fourteen = header.encode();
-    let start = fourteen.len();
-    out[..start].copy_from_slice(&fourteen);
+    let start = put::bytes(out, 0, header.encode());
     let end = write_chunks(pixels, header, out, start);
-    let marker = QOI_PADDING;
-    let after = end + marker.len();
-    out[end..after].copy_from_slice(&marker);
-    after
+    put::bytes(out, end, QOI_PADDING)
 }
 
 // Writes the chunks of a header's pixels at a place, and answers where they end.
@@ -174,10 +142,8 @@ fn write_chunks(pixels: &[u8], header: Header, out: &mut [u8], start: usize) -> 
         (picture_bytes (pixel_count header) (channels_number header.channels) pixels.now)
         out.old result out.new }
 {
-    let count = header.n_pixels();
-    let channels = header.channels;
-    match channels {
-        Channels::Rgb => three::write_three(pixels, count, out, start),
-        Channels::Rgba => four::write_four(pixels, count, out, start),
+    match header.channels {
+        Channels::Rgb => picture::write(pixels.as_chunks::<3>().0, out, start),
+        Channels::Rgba => picture::write(pixels.as_chunks::<4>().0, out, start),
     }
 }
