@@ -8,25 +8,28 @@ use Prim.Native.Nat.{ℕ, zero, suc, ◌+◌, ◌-◌, ◌*◌, ◌≤◌, ◌<�
 use native.Mathlib.Nat.{zero-mul, sub-zero, add-mul, mul-le-mul}
 use native.Mathlib.Omega.{arith}
 use borrow.Author.Tests.{ltb-true, ltb-false, lt-ltb, le-ltb, le-leb, eq-eqb}
-use lib.Dec.{ltb}
-use lib.ListN.{length, drop}
+use lib.Dec.{T, ltb}
+use lib.ListN.{length, take, drop}
+use Rattle.std.specs.Prelude.{Result, Ok, Err}
+use Rattle.pixel.specs.declared.error.Error.{Error}
 use Rattle.pixel.specs.Refusal.{ended_early}
 use Rattle.pixel.specs.declared.types.Channels.{Channels}
 use Rattle.pixel.specs.declared.types.Channels.TheVariants.{Rgb, Rgba}
 use Rattle.pixel.specs.Types.{channels_number}
 use Rattle.header.specs.declared.Header.{Header}
-use Rattle.header.specs.Header.{dimensions_fit, pixel_count}
-use Rattle.header.proofs.Laws.{is_true}
+use Rattle.header.specs.Header.{dimensions_fit, header_of, pixel_count}
+use Rattle.header.proofs.Laws.{is_true, header_accepted}
 use Rattle.rules.specs.Bytes.{pasted, written_over}
 use Rattle.rules.specs.Chunk.{Chunk, Found, cut, chunk, chunk_at}
-use Rattle.rules.specs.Reading.{Place, Answer, Reading, refused, more, end, move, move_by, read_on, silent, after, remaining, closing, size_wanted, reading_into, start_place, place_after, bytes_of}
+use Rattle.rules.specs.Reading.{Place, Answer, Reading, done, refused, more, end, move, move_by, read_on, silent, after, remaining, closing, size_wanted, reading_into, start_place, place_after, bytes_of}
 use Rattle.rules.specs.Decode.{decoder, decoder_reads_rgba}
 use Rattle.rules.proofs.ChunkLaws.{Sound, sound_of, sound_found}
-use Rattle.rules.proofs.PastingLaws.{length_pasted, pasted_next, pasted_none}
+use Rattle.rules.proofs.PastingLaws.{length_pasted, pasted_next, pasted_none, whole_tail}
 use Rattle.rules.proofs.PlaceLaws.{Shaped, shaped_start, shaped_next, pixel_reached, stays_inside}
 use Rattle.rules.proofs.ReadingLaws.{remaining_unfolds, moved_last, stays_within, advances, reading_size}
+use Rattle.chunk.specs.Found.{ending_at, closed_by}
+use Rattle.chunk.proofs.Ends.{closing_by}
 use Rattle.walk.specs.Walking.{End, end_of, fits, walking, walking_into}
-use Rattle.decode.specs.Asked.{Opened}
 
 -- three channels or four
 few_channels : (w : Channels) → channels_number w ≤ 4
@@ -197,13 +200,22 @@ module _ (header : Header) (wanted : ℕ) (message : List ℕ) (few : wanted ≤
       go shorter false e = reads_none (suc n) place out ready (ltb-false _ _ e)
 
 -- every chunk of a message that has a header and whose picture has room
-module _ (header : Header) (w : Channels) (message out : List ℕ) (opened : Opened header message)
-    (room : pixel_count header * channels_number w ≤ length out) where
+module _ (header : Header) (w : Channels) (message out : List ℕ) (opened : header_of message ≡ Ok header)
+    (size : ℕ) (counted : size ≡ size_wanted header (channels_number w)) (enough : size ≤ length out) where
+  fit : T (dimensions_fit header.width header.height)
+  fit = (header_accepted message header opened).fit
+
+  whole_header : 14 ≤ length message
+  whole_header = (header_accepted message header opened).whole
+
+  room : size_wanted header (channels_number w) ≤ length out
+  room = rw counted at enough
+
   -- the input fits
   passes : fits header (channels_number w) (length message) (pixel_count header) (pixel_count header) 14 0 (length out) ≡ true
   unfolding fits
   passes =
-      simp (is_true (dimensions_fit header.width header.height) opened.fit, le-leb 14 (length message) opened.whole, eq-eqb (0 + pixel_count header) (pixel_count header) (omega arith), le-leb (pixel_count header) (pixel_count header + 1) (omega arith), le-leb (pixel_count header * channels_number w) (length out) room)
+      simp (is_true (dimensions_fit header.width header.height) fit, le-leb 14 (length message) whole_header, eq-eqb (0 + pixel_count header) (pixel_count header) (omega arith), le-leb (pixel_count header) (pixel_count header + 1) (omega arith), le-leb (pixel_count header * channels_number w) (length out) room)
 
   abbrev end_is : End
   end_is = end_of (walking_into header (channels_number w) message (pixel_count header) (pixel_count header) start_place out)
@@ -213,7 +225,7 @@ module _ (header : Header) (w : Channels) (message out : List ℕ) (opened : Ope
 
   ready_start : Ready header (channels_number w) message (few_channels w) start_place out
   unfolding start_place
-  ready_start = record { within = omega arith; inside = opened.whole; shaped = shaped_start; room = room }
+  ready_start = record { within = omega arith; inside = whole_header; shaped = shaped_start; room = room }
 
   reads_start : Ends header (channels_number w) message (few_channels w) end_is all 0 out
   unfolding walking_into start_place
@@ -246,9 +258,19 @@ module _ (header : Header) (w : Channels) (message out : List ℕ) (opened : Ope
         e.cut ≡ true → (refused ended_early ≡ asked.answer) × (e.out ≡ written_over asked.bytes out)
     ends_cut short = (rw into (sym (rw short at reads.answers)), written_over_lem)
 
-    -- no pixel is missing
-    pub ends_closing :
-        e.cut ≡ false
-        → (closing (size_wanted header (channels_number w)) message e.at ≡ asked.answer)
-        × (e.out ≡ written_over asked.bytes out)
-    ends_closing whole = (rw into (sym (rw whole at reads.answers)), written_over_lem)
+    -- no pixel is missing: the marker test of the part from there on
+    module _ (whole : e.cut ≡ false) (r : Result (Unit {0}) Error)
+        (told : r ≡ ending_at (take (length message - e.at) (drop e.at message))) where
+      answers : closed_by (size_wanted header (channels_number w)) e.at r ≡ asked.answer
+      answers =
+          rw (told, whole_tail message e.at, ← closing_by (size_wanted header (channels_number w)) message e.at, into)
+          (sym (rw whole at reads.answers))
+
+      pub ends_refused :
+          (why : Error) → r ≡ Err why → (refused why ≡ asked.answer) × (e.out ≡ written_over asked.bytes out)
+      ends_refused why is = (rw is at answers, written_over_lem)
+
+      pub ends_done :
+          (marker-stands : Unit {0}) → r ≡ Ok marker-stands
+          → (done size (e.at + 8) ≡ asked.answer) × (e.out ≡ written_over asked.bytes out)
+      ends_done u is = (rw counted (rw is at answers), written_over_lem)

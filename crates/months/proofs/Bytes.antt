@@ -1,5 +1,6 @@
 -- Each cell of a frame has 32 bits, since a message of bytes decodes to bytes.
 -- Assumes nothing.
+use Rattle.std.specs.Prelude.{Result, Ok, Err}
 use mathlib.Core.List.{List}
 use Prim.Native.Nat.{ℕ, ◌+◌, ◌*◌, ◌^◌, ◌<◌}
 use native.Mathlib.Decide.{dec_lt}
@@ -9,8 +10,6 @@ use lib.ListN.{length, get_or, get_or-eq_default}
 use Rattle.pixel.specs.declared.types.Channels.{Channels}
 use Rattle.pixel.specs.declared.types.Channels.TheVariants.{Rgb, Rgba}
 use Rattle.pixel.specs.Bytes.{AllBytes}
-use Rattle.header.specs.declared.HeaderRead.{HeaderRead}
-use Rattle.header.specs.declared.HeaderRead.TheVariants as header_read
 use Rattle.header.specs.Header.{pixel_count, header_of}
 use Rattle.rules.specs.Reading.{Answer, done, refused}
 use Rattle.rules.specs.Decode.{decoding}
@@ -18,6 +17,8 @@ use Rattle.totals.specs.Counting.{cells_of, Frame, cells, with_four, frame_from,
 use Rattle.totals.proofs.Sums.{either, cells_length, cells_at}
 use Rattle.totals.proofs.Decoded.{decoded_bytes}
 use Rattle.months.specs.Month.{rain_of, accepted, brings, cell_in}
+use Rattle.header.specs.declared.Header.{Header}
+use Rattle.pixel.specs.declared.error.Error.{Error}
 
 -- a list of bytes reads as bytes, also past its end
 bytes_anywhere : (l : List ℕ) → AllBytes l → (i : ℕ) → get_or l i 0 < 256
@@ -58,10 +59,10 @@ frame_small n c all i =
     four_channels Rgba used rain less = fitted used rain less
 
     framed :
-        (h : HeaderRead) (answer : Answer) (bytes : List ℕ) → AllBytes bytes
+        (h : Result Header Error) (answer : Answer) (bytes : List ℕ) → AllBytes bytes
         → cell_in i (accepted n (frame_from h answer bytes)) < 2 ^ 32
     framed h (refused e) bytes fine = lit< tt
-    framed (header_read.Refused e) (done size used) bytes fine = lit< tt
-    framed (header_read.Ok header) (done size used) bytes fine =
+    framed (Err e) (done size used) bytes fine = lit< tt
+    framed (Ok header) (done size used) bytes fine =
         four_channels header.channels used (cells_of (pixel_count header) bytes)
         (cells_small (pixel_count header) bytes fine i)

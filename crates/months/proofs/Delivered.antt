@@ -1,11 +1,11 @@
 -- Deliveries, proved: what is delivered again changes nothing; with one message an hour neither does the order; and so
 -- a month delivered at least once totals as one delivered exactly once and in order.
 -- Assumes nothing.
+use Rattle.std.specs.Prelude.{Option, None, Some}
 use mathlib.Core.Bool.{Bool, true, false, cond}
 use mathlib.Core.List.Memᴰ
 use mathlib.Core.List.{List, [], ◌∷◌, ◌++◌, Memᴰ}
 use mathlib.Core.Logic.{◌⊎◌, inl, inr}
-use mathlib.Core.Option.{Option, none, some}
 use mathlib.Core.Path.{◌≡◌, refl, sym, ◌∙◌, ap}
 use Prim.Native.Nat.{ℕ, zero, suc, ◌<◌}
 use native.Mathlib.Decide.{ℕ_discrete}
@@ -108,14 +108,14 @@ module _ (n : ℕ) (sent : ℕ → List ℕ) (k : ℕ) (bytes : (hour : ℕ) →
 
     -- an hour that has no first frame was sent none
     none_sent :
-        (h : ℕ) → first_for n ds h ≡ none → (below : Bool) → ltb h k ≡ below
-        → (o : Option (List ℕ)) → brings n (call_for n sent h) ≡ o → cond below o none ≡ none
+        (h : ℕ) → first_for n ds h ≡ None → (below : Bool) → ltb h k ≡ below
+        → (o : Option (List ℕ)) → brings n (call_for n sent h) ≡ o → cond below o None ≡ None
     none_sent h first false is o sends = refl
-    none_sent h first true is none sends = refl
-    none_sent h first true is (some rain) sends =
+    none_sent h first true is None sends = refl
+    none_sent h first true is (Some rain) sends =
         let came = once.each_hour h (ltb-true h k is) in
         let d = came.0 in
-        let brought : brought_for n h d ≡ some rain =
+        let brought : brought_for n h d ≡ Some rain =
         like_brings n h d (call_for n sent h) (as_called h d came.1 came.2) (once.roomy d came.1)
         (rw (eq-eqb h h refl) sends) in
         absurd (brought_first n h ds (record { call = d; one_of_them = came.1; brought = brought }) first)
@@ -127,9 +127,9 @@ module _ (n : ℕ) (sent : ℕ → List ℕ) (k : ℕ) (bytes : (hour : ℕ) →
       where
         go :
             (o : Option (List ℕ)) → first_for n ds h ≡ o
-            → first_for n ds h ≡ cond (ltb h k) (brings n (call_for n sent h)) none
-        go none first = first ∙ sym (none_sent h first (ltb h k) refl (brings n (call_for n sent h)) refl)
-        go (some rain) first =
+            → first_for n ds h ≡ cond (ltb h k) (brings n (call_for n sent h)) None
+        go None first = first ∙ sym (none_sent h first (ltb h k) refl (brings n (call_for n sent h)) refl)
+        go (Some rain) first =
             let b = first_brought n h ds first in
             let own = brought_own n h b.call b.brought in
             let alike = as_called h b.call b.one_of_them own.0 in

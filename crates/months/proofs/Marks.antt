@@ -1,10 +1,10 @@
 -- Marks, of any table: what is not counted changes nothing, a marked hour is counted already, and no hour is counted
 -- twice. Of a fresh table: an hour is marked exactly if some call for it was counted.
 -- Assumes nothing.
+use Rattle.std.specs.Prelude.{Result, Ok, Err, Option, None, Some}
 use mathlib.Core.Bool.{Bool, true, false, cond}
 use mathlib.Core.List.{List, [], ◌∷◌, ◌++◌}
 use mathlib.Core.Logic.{◌↔◌, ◌⊎◌, inl, inr}
-use mathlib.Core.Option.{Option, none, some}
 use mathlib.Core.Path.{◌≡◌, refl, sym, ◌∙◌, ap, subst}
 use Prim.Native.Nat.{ℕ, ◌<◌}
 use native.Mathlib.Decide.{ℕ_discrete, dec_lt}
@@ -14,23 +14,24 @@ use lib.Dec.{ltb}
 use lib.ListN.{length, get_or, length-set, length-replicate, get_or-replicate, get_or-eq_default}
 use lib.Seq.{get_or-set_same, get_or-set_other, set_out}
 use Rattle.pixel.specs.declared.error.Error.TheVariants.{InvalidHour}
+use Rattle.pixel.specs.declared.error.Error.{Error}
 use Rattle.totals.specs.declared.Counted.{Counted}
-use Rattle.totals.specs.declared.Counted.TheVariants.{Done, Already, Refused}
+use Rattle.totals.specs.declared.Counted.TheVariants.{Done, Already}
 use Rattle.totals.specs.Counting.{hours_of_month, Table, fresh, is_marked, Frame, cells, unread, frame_of, fitting, Outcome, unchanged, with_frame, unless_past, added_to, first_past, counting_frame, Call, counting}
 use Rattle.months.specs.Month.{month, CountedAmong}
 
 -- every answer but that the frame was counted
-abbrev NotDone : Counted → Type 0
-NotDone (Done used) = ⊥
-NotDone Already = Unit {0}
-NotDone (Refused e) = Unit {0}
+abbrev NotDone : Result Counted Error → Type 0
+NotDone (Ok (Done used)) = ⊥
+NotDone (Ok Already) = Unit {0}
+NotDone (Err e) = Unit {0}
 
 -- an outcome of a call: nothing changes, or a frame is added and the call's hour marked
 data Comes (t : Table) (c : Call) : Outcome → Type 0 where
-  stays : (answer : Counted) → NotDone answer → Comes t c (unchanged t answer)
+  stays : (answer : Result Counted Error) → NotDone answer → Comes t c (unchanged t answer)
   counts :
       (used : ℕ) (rain : List ℕ) → c.hour < hours_of_month
-      → Comes t c (record { answer = Done used; table = with_frame t c.hour rain })
+      → Comes t c (record { answer = Ok (Done used); table = with_frame t c.hour rain })
 
 -- every call has one
 comes : (t : Table) (c : Call) → Comes t c (counting t c)
@@ -42,8 +43,8 @@ comes t c =
     sums :
         (used : ℕ) (rain : List ℕ) (past : Option ℕ) → c.hour < hours_of_month
         → Comes t c (unless_past t c.hour used rain past)
-    sums used rain none below = counts used rain below
-    sums used rain (some cell) below = stays _ tt
+    sums used rain None below = counts used rain below
+    sums used rain (Some cell) below = stays _ tt
 
     frame_is : (f : Frame) → c.hour < hours_of_month → Comes t c (counting_frame t c.hour f)
     frame_is (unread e) below = stays _ tt
@@ -52,24 +53,24 @@ comes t c =
     hour_is :
         (below : Bool) → ltb c.hour hours_of_month ≡ below → (marked : Bool) (f : Frame)
         → Comes t c
-        (cond below (cond marked (unchanged t Already) (counting_frame t c.hour f))
-        (unchanged t (Refused (InvalidHour c.hour))))
+        (cond below (cond marked (unchanged t (Ok Already)) (counting_frame t c.hour f))
+        (unchanged t (Err (InvalidHour c.hour))))
     hour_is true is true f = stays _ tt
     hour_is true is false f = frame_is f (ltb-true c.hour hours_of_month is)
     hour_is false is marked f = stays _ tt
 
 -- every answer but that the frame was counted leaves the table as it was
 pub refused_unchanged :
-    (t : Table) (c : Call) → ((used : ℕ) → (counting t c).answer ≡ Done used → ⊥) → (counting t c).table ≡ t
+    (t : Table) (c : Call) → ((used : ℕ) → (counting t c).answer ≡ Ok (Done used) → ⊥) → (counting t c).table ≡ t
 refused_unchanged t c = go (counting t c) (comes t c)
   where
-    go : (o : Outcome) → Comes t c o → ((used : ℕ) → o.answer ≡ Done used → ⊥) → o.table ≡ t
+    go : (o : Outcome) → Comes t c o → ((used : ℕ) → o.answer ≡ Ok (Done used) → ⊥) → o.table ≡ t
     go o (stays answer other) not_done = refl
     go o (counts used rain below) not_done = absurd (not_done used refl)
 
 -- a call for a marked hour answers that it was counted already, and changes nothing
 pub counted_already :
-    (t : Table) (c : Call) → c.hour < hours_of_month → is_marked t c.hour ≡ true → counting t c ≡ unchanged t Already
+    (t : Table) (c : Call) → c.hour < hours_of_month → is_marked t c.hour ≡ true → counting t c ≡ unchanged t (Ok Already)
 unfolding counting
 counted_already t c below marked = rw (lt-ltb c.hour hours_of_month below, marked)
 
@@ -93,17 +94,17 @@ module _ (t : Table) (c : Call) where
   -- an hour that is marked then was marked before, or the call was for it and was counted
   marked_by :
       (o : Outcome) → Comes t c o → (hour : ℕ) → is_marked o.table hour ≡ true
-      → (is_marked t hour ≡ true) ⊎ ((used : ℕ) × (c.hour ≡ hour) × (o.answer ≡ Done used))
+      → (is_marked t hour ≡ true) ⊎ ((used : ℕ) × (c.hour ≡ hour) × (o.answer ≡ Ok (Done used)))
   marked_by o (stays answer other) hour marked = inl marked
   marked_by o (counts used rain below) hour marked = go (ℕ_discrete hour c.hour)
     where
-      go : Dec (hour ≡ c.hour) → (is_marked t hour ≡ true) ⊎ ((u : ℕ) × (c.hour ≡ hour) × (Done used ≡ Done u))
+      go : Dec (hour ≡ c.hour) → (is_marked t hour ≡ true) ⊎ ((u : ℕ) × (c.hour ≡ hour) × (◌≡◌ {A = Result Counted Error} (Ok (Done used)) (Ok (Done u))))
       go (yes e) = inr (used, sym e, refl)
       go (no apart) = inl (rw (get_or-set_other t.marks c.hour hour 1 0 apart) at marked)
 
   -- a call that was counted is for an hour of the month, and marks it
   counted_marks :
-      (o : Outcome) → Comes t c o → length t.marks ≡ hours_of_month → (used : ℕ) → o.answer ≡ Done used
+      (o : Outcome) → Comes t c o → length t.marks ≡ hours_of_month → (used : ℕ) → o.answer ≡ Ok (Done used)
       → (c.hour < hours_of_month) × (is_marked o.table c.hour ≡ true)
   counted_marks o (stays answer other) hours used is = absurd (subst NotDone is other)
   counted_marks o (counts _ rain below) hours used is =
@@ -137,7 +138,7 @@ marked_from [] t hour marked = inl marked
 marked_from (c ∷ cs) t hour marked = later (marked_from cs (counting t c).table hour marked)
   where
     now :
-        (is_marked t hour ≡ true) ⊎ ((used : ℕ) × (c.hour ≡ hour) × ((counting t c).answer ≡ Done used))
+        (is_marked t hour ≡ true) ⊎ ((used : ℕ) × (c.hour ≡ hour) × ((counting t c).answer ≡ Ok (Done used)))
         → (is_marked t hour ≡ true) ⊎ CountedAmong t (c ∷ cs) hour
     now (inl was) = inl was
     now (inr (used, same, is)) =
@@ -206,7 +207,7 @@ marked_exactly n cs hour =
 -- no hour is counted twice
 pub counted_once :
     (t : Table) → length t.marks ≡ hours_of_month → (cs : List Call) (c : Call) (used : ℕ)
-    → CountedAmong t cs c.hour → (counting (month t cs) c).answer ≡ Done used → ⊥
+    → CountedAmong t cs c.hour → (counting (month t cs) c).answer ≡ Ok (Done used) → ⊥
 counted_once t hours cs c used k is =
     let m = counted_marked t hours cs c.hour k in
     let already = counted_already (month t cs) c m.0 m.1 in

@@ -1,20 +1,15 @@
 -- A frame's refusals have numbers below 21: that one a full table alone can bring.
 -- Assumes nothing.
+use Rattle.std.specs.Prelude.{Result, Ok, Err}
 use mathlib.Core.List.{List}
 use Prim.Native.Nat.{ℕ, zero, suc, ◌-◌, ◌<◌}
 use lib.Dec.{lit<, eqb, ltb}
 use lib.ListN.{length, get_or, take, drop}
 use Rattle.pixel.specs.declared.types.Channels.{Channels}
 use Rattle.pixel.specs.declared.types.Channels.TheVariants.{Rgb, Rgba}
-use Rattle.pixel.specs.declared.types.ChannelsRead.{ChannelsRead}
-use Rattle.pixel.specs.declared.types.ChannelsRead.TheVariants as channels_read
-use Rattle.pixel.specs.declared.types.ColorSpaceRead.{ColorSpaceRead}
-use Rattle.pixel.specs.declared.types.ColorSpaceRead.TheVariants as colorspace_read
 use Rattle.pixel.specs.Refusal.{number_of}
 use Rattle.pixel.specs.Types.{channels_number, channels_from, color_space_from}
 use Rattle.header.specs.declared.Header.{Header}
-use Rattle.header.specs.declared.HeaderRead.{HeaderRead}
-use Rattle.header.specs.declared.HeaderRead.TheVariants as header_read
 use Rattle.header.specs.Header.{pixel_count, dimensions_fit, number_at, magic_number, header_from, after_color_space, after_channels, header_of}
 use Rattle.rules.specs.Chunk.{Found, cut, chunk}
 use Rattle.rules.specs.Bytes.{same_bytes}
@@ -22,21 +17,23 @@ use Rattle.rules.specs.Reading.{Place, Answer, done, refused, Move, more, end, R
 use Rattle.rules.specs.Decode.{decoder, decoding}
 use Rattle.totals.specs.Counting.{Frame, cells, unread, with_four, frame_from, frame_of, fitting}
 use Rattle.totals.proofs.Sums.{either}
+use Rattle.pixel.specs.declared.types.ColorSpace.{ColorSpace}
+use Rattle.pixel.specs.declared.error.Error.{Error}
 
 -- below 21: channels read
-abbrev ChannelsBelow : ChannelsRead → Type 0
-ChannelsBelow (channels_read.Ok channels) = Unit {0}
-ChannelsBelow (channels_read.Refused e) = number_of e < 21
+abbrev ChannelsBelow : Result Channels Error → Type 0
+ChannelsBelow (Ok channels) = Unit {0}
+ChannelsBelow (Err e) = number_of e < 21
 
 -- a colour space read
-abbrev ColorSpaceBelow : ColorSpaceRead → Type 0
-ColorSpaceBelow (colorspace_read.Ok colorspace) = Unit {0}
-ColorSpaceBelow (colorspace_read.Refused e) = number_of e < 21
+abbrev ColorSpaceBelow : Result ColorSpace Error → Type 0
+ColorSpaceBelow (Ok colorspace) = Unit {0}
+ColorSpaceBelow (Err e) = number_of e < 21
 
 -- a header read
-abbrev HeaderBelow : HeaderRead → Type 0
-HeaderBelow (header_read.Ok header) = Unit {0}
-HeaderBelow (header_read.Refused e) = number_of e < 21
+abbrev HeaderBelow : Result Header Error → Type 0
+HeaderBelow (Ok header) = Unit {0}
+HeaderBelow (Err e) = number_of e < 21
 
 -- a decode's answer
 abbrev AnswerBelow : Answer → Type 0
@@ -68,15 +65,15 @@ header_below m =
     either HeaderBelow (ltb (length m) 14) _ _ (lit< tt)
     (channelled (channels_from (get_or m 12 0)) (channels_below (get_or m 12 0)))
   where
-    spaced : (channels : Channels) (s : ColorSpaceRead) → ColorSpaceBelow s → HeaderBelow (after_color_space m channels s)
-    spaced channels (colorspace_read.Refused e) below = below
-    spaced channels (colorspace_read.Ok colorspace) below =
+    spaced : (channels : Channels) (s : Result ColorSpace Error) → ColorSpaceBelow s → HeaderBelow (after_color_space m channels s)
+    spaced channels (Err e) below = below
+    spaced channels (Ok colorspace) below =
         either HeaderBelow (eqb (number_at m 0) magic_number) _ _
         (either HeaderBelow (dimensions_fit (number_at m 4) (number_at m 8)) _ _ tt (lit< tt)) (lit< tt)
 
-    channelled : (c : ChannelsRead) → ChannelsBelow c → HeaderBelow (after_channels m c)
-    channelled (channels_read.Refused e) below = below
-    channelled (channels_read.Ok channels) below =
+    channelled : (c : Result Channels Error) → ChannelsBelow c → HeaderBelow (after_channels m c)
+    channelled (Err e) below = below
+    channelled (Ok channels) below =
         spaced channels (color_space_from (get_or m 13 0)) (colorspace_below (get_or m 13 0))
 
 -- 1 and 8 where the chunks end
@@ -125,14 +122,14 @@ unfolding whole_reading after_header after_wanted
 decode_below m wanted room = opened (header_of m) (header_below m)
   where
     wanting :
-        (header : Header) (c : ChannelsRead) → ChannelsBelow c
+        (header : Header) (c : Result Channels Error) → ChannelsBelow c
         → AnswerBelow (after_wanted decoder m room header c).answer
-    wanting header (channels_read.Refused e) below = below
-    wanting header (channels_read.Ok channels) below = into_below header (channels_number channels) m room
+    wanting header (Err e) below = below
+    wanting header (Ok channels) below = into_below header (channels_number channels) m room
 
-    opened : (h : HeaderRead) → HeaderBelow h → AnswerBelow (after_header decoder m room wanted h).answer
-    opened (header_read.Refused e) below = below
-    opened (header_read.Ok header) below = wanting header (channels_from wanted) (channels_below wanted)
+    opened : (h : Result Header Error) → HeaderBelow h → AnswerBelow (after_header decoder m room wanted h).answer
+    opened (Err e) below = below
+    opened (Ok header) below = wanting header (channels_from wanted) (channels_below wanted)
 
 -- those, 2 for three channels, 20
 pub frame_below : (n : ℕ) (m : List ℕ) (room : ℕ) → FrameBelow (fitting n (frame_of m room))
@@ -150,8 +147,8 @@ frame_below n m room =
     four_channels Rgba used rain = tt
 
     framed :
-        (h : HeaderRead) → HeaderBelow h → (answer : Answer) → AnswerBelow answer
+        (h : Result Header Error) → HeaderBelow h → (answer : Answer) → AnswerBelow answer
         → FrameBelow (frame_from h answer (decoding m 4 room).bytes)
     framed h known (refused e) below = below
-    framed (header_read.Refused e) known (done size used) below = known
-    framed (header_read.Ok header) known (done size used) below = four_channels header.channels used _
+    framed (Err e) known (done size used) below = known
+    framed (Ok header) known (done size used) below = four_channels header.channels used _

@@ -1,8 +1,8 @@
 -- What a message brings does not depend on the size of the frame's buffer, where that holds a frame of so many cells.
 -- Assumes nothing.
+use Rattle.std.specs.Prelude.{Result, Ok, Err, Option, None, Some}
 use mathlib.Core.Bool.{Bool, true, false, cond}
 use mathlib.Core.List.{List}
-use mathlib.Core.Option.{Option, none, some}
 use mathlib.Core.Path.{◌≡◌, refl, sym, ◌∙◌, ap}
 use Prim.Native.Nat.{ℕ, zero, suc, ◌*◌, ◌≤◌}
 use native.Mathlib.Omega.{arith}
@@ -13,13 +13,12 @@ use Rattle.pixel.specs.declared.error.Error.TheVariants.{InvalidCellCount, Outpu
 use Rattle.pixel.specs.declared.types.Channels.{Channels}
 use Rattle.pixel.specs.declared.types.Channels.TheVariants.{Rgb, Rgba}
 use Rattle.header.specs.declared.Header.{Header}
-use Rattle.header.specs.declared.HeaderRead.{HeaderRead}
-use Rattle.header.specs.declared.HeaderRead.TheVariants as header_read
 use Rattle.header.specs.Header.{pixel_count, header_of}
 use Rattle.rules.specs.Reading.{Answer, done, refused, Reading, silent, start_place, size_wanted, remaining, reading_into, after_wanted, after_header, whole_reading}
 use Rattle.rules.specs.Decode.{decoder}
 use Rattle.totals.specs.Counting.{cells_of, cells, unread, with_four, frame_from, frame_of, fitting, Call}
 use Rattle.months.specs.Month.{rain_of, accepted, brings}
+use Rattle.pixel.specs.declared.error.Error.{Error}
 
 -- there is one cell for each pixel
 cells_are_pixels : (n : ℕ) (bytes : List ℕ) → length (cells_of n bytes) ≡ n
@@ -28,17 +27,17 @@ cells_are_pixels zero bytes = refl
 cells_are_pixels (suc n) bytes = ap suc (cells_are_pixels n (drop 4 bytes))
 
 -- none is no frame
-pub none_is_not : {rain : List ℕ} → none ≡ some rain → ⊥
+pub none_is_not : {rain : List ℕ} → None ≡ Some rain → ⊥
 none_is_not is = let z : ◌≡◌ {A = ℕ} 0 1 = cc in omega arith
 
 -- what a table accepts of a reading, as the frame of a message with this header
-abbrev accepted_of : ℕ → HeaderRead → Reading → Option (List ℕ)
+abbrev accepted_of : ℕ → Result Header Error → Reading → Option (List ℕ)
 accepted_of n h r = accepted n (frame_from h r.answer r.bytes)
 
 module _ (n : ℕ) {rain : List ℕ} where
   -- an accepted frame has a pixel for each cell
   pixels_are :
-      (header : Header) (r : Reading) → accepted_of n (header_read.Ok header) r ≡ some rain → pixel_count header ≡ n
+      (header : Header) (r : Reading) → accepted_of n (Ok header) r ≡ Some rain → pixel_count header ≡ n
   unfolding accepted fitting frame_from
   pixels_are header r is = answered r.answer is
     where
@@ -47,26 +46,26 @@ module _ (n : ℕ) {rain : List ℕ} where
 
       fitted :
           (used : ℕ) (same : Bool) → eqb (length found) n ≡ same
-          → rain_of (cond same (cells used found) (unread (InvalidCellCount (length found) n))) ≡ some rain
+          → rain_of (cond same (cells used found) (unread (InvalidCellCount (length found) n))) ≡ Some rain
           → pixel_count header ≡ n
       fitted used true same is = sym (cells_are_pixels (pixel_count header) r.bytes) ∙ eqb-true (length found) n same
       fitted used false same is = absurd (none_is_not is)
 
       four_channels :
-          (used : ℕ) (channels : Channels) → accepted n (with_four channels used found) ≡ some rain
+          (used : ℕ) (channels : Channels) → accepted n (with_four channels used found) ≡ Some rain
           → pixel_count header ≡ n
       four_channels used Rgb is = absurd (none_is_not is)
       four_channels used Rgba is = fitted used (eqb (length found) n) refl is
 
       answered :
-          (answer : Answer) → accepted n (frame_from (header_read.Ok header) answer r.bytes) ≡ some rain
+          (answer : Answer) → accepted n (frame_from (Ok header) answer r.bytes) ≡ Some rain
           → pixel_count header ≡ n
       answered (refused e) is = absurd (none_is_not is)
       answered (done size used) is = four_channels used header.channels is
 
   -- what one call brings, every call with the same message brings in a buffer that has the room
   pub brings_again :
-      (c d : Call) → c.message ≡ d.message → n * 4 ≤ c.room → brings n d ≡ some rain → brings n c ≡ some rain
+      (c d : Call) → c.message ≡ d.message → n * 4 ≤ c.room → brings n d ≡ Some rain → brings n c ≡ Some rain
   unfolding accepted fitting frame_from frame_of whole_reading after_header after_wanted reading_into
   brings_again c d same fits is = rw same (opened (header_of d.message) is)
     where
@@ -75,16 +74,16 @@ module _ (n : ℕ) {rain : List ℕ} where
 
       into :
           (header : Header) (few : Bool) → ltb d.room (size_wanted header 4) ≡ few
-          → accepted_of n (header_read.Ok header)
+          → accepted_of n (Ok header)
           (cond few (silent (refused (OutputBufferTooSmall d.room (size_wanted header 4)))) (all header))
-          ≡ some rain
-          → accepted_of n (header_read.Ok header) (reading_into decoder header 4 d.message c.room) ≡ some rain
+          ≡ Some rain
+          → accepted_of n (Ok header) (reading_into decoder header 4 d.message c.room) ≡ Some rain
       into header true few is = absurd (none_is_not is)
       into header false enough is =
           rw (le-ltb c.room (size_wanted header 4) (omega (arith, pixels_are header (all header) is))) is
 
       opened :
-          (h : HeaderRead) → accepted_of n h (after_header decoder d.message d.room 4 h) ≡ some rain
-          → accepted_of n h (after_header decoder d.message c.room 4 h) ≡ some rain
-      opened (header_read.Refused e) is = absurd (none_is_not is)
-      opened (header_read.Ok header) is = into header (ltb d.room (size_wanted header 4)) refl is
+          (h : Result Header Error) → accepted_of n h (after_header decoder d.message d.room 4 h) ≡ Some rain
+          → accepted_of n h (after_header decoder d.message c.room 4 h) ≡ Some rain
+      opened (Err e) is = absurd (none_is_not is)
+      opened (Ok header) is = into header (ltb d.room (size_wanted header 4)) refl is

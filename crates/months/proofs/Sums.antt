@@ -1,7 +1,7 @@
 -- Laws of sums over hours, and of frames that come first.
 -- Assumes nothing.
+use Rattle.std.specs.Prelude.{Option, None, Some}
 use mathlib.Core.List.{List}
-use mathlib.Core.Option.{Option, none, some}
 use mathlib.Core.Path.{◌≡◌, refl, sym}
 use Prim.Native.Nat.{ℕ, zero, suc, ◌+◌, ◌*◌, ◌^◌, ◌≤◌, ◌<◌, zero-le}
 use native.Mathlib.Decide.{ℕ_discrete}
@@ -43,11 +43,11 @@ sum_none zero = refl
 sum_none (suc k) = omega (arith, sum_none k)
 
 -- the earlier of one and none
-pub earlier_none : (a : Option (List ℕ)) → earlier a none ≡ a
-earlier_none none = refl
-earlier_none (some rain) = refl
+pub earlier_none : (a : Option (List ℕ)) → earlier a None ≡ a
+earlier_none None = refl
+earlier_none (Some rain) = refl
 
 -- the earliest of three
 pub earlier_three : (a b c : Option (List ℕ)) → earlier a (earlier b c) ≡ earlier (earlier a b) c
-earlier_three none b c = refl
-earlier_three (some rain) b c = refl
+earlier_three None b c = refl
+earlier_three (Some rain) b c = refl

@@ -1,9 +1,9 @@
 -- A table that adds up to frames, and one call: it then adds up to those frames and the call's, and the answer is the
 -- one that they say.
 -- Assumes nothing.
+use Rattle.std.specs.Prelude.{Result, Ok, Err, Option, None, Some}
 use mathlib.Core.Bool.{Bool, true, false, cond, not}
 use mathlib.Core.List.{List}
-use mathlib.Core.Option.{Option, none, some}
 use mathlib.Core.Path.{◌≡◌, refl, sym, ◌∙◌, ap, ap₂, fun_ext}
 use Prim.Native.Nat.{ℕ, ◌+◌, ◌*◌, ◌^◌, ◌≤◌, ◌<◌}
 use native.Mathlib.Decide.{ℕ_discrete}
@@ -13,8 +13,9 @@ use lib.Dec.{ltb, eqb, lit<}
 use lib.ListN.{get_or, set, length-set, length-replicate, get_or-replicate}
 use lib.Seq.{get_or-set_same, get_or-set_other, ext_get_or}
 use Rattle.pixel.specs.declared.error.Error.TheVariants.{InvalidHour}
+use Rattle.pixel.specs.declared.error.Error.{Error}
 use Rattle.totals.specs.declared.Counted.{Counted}
-use Rattle.totals.specs.declared.Counted.TheVariants.{Refused, Already}
+use Rattle.totals.specs.declared.Counted.TheVariants.{Already}
 use Rattle.totals.specs.Counting.{hours_of_month, Table, fresh, is_marked, Frame, cells, unread, fitting, frame_of, Call, Outcome, unchanged, added_to, first_past, with_frame, counting_frame, counting}
 use Rattle.months.specs.Month.{rain_of, accepted, brings, earlier, mark_of, cell_in, answer_to, unless_counted, answer_after, sum_over, AddsUp}
 use Rattle.totals.proofs.Sums.{added_length, added_at, none_past}
@@ -26,7 +27,7 @@ Small rain = (i : ℕ) → cell_in i rain < 2 ^ 32
 
 -- one more frame for an hour, after those that came first
 abbrev pub and_then : (ℕ → Option (List ℕ)) → ℕ → Option (List ℕ) → ℕ → Option (List ℕ)
-and_then first hour rain h = earlier (first h) (cond (eqb hour h) rain none)
+and_then first hour rain h = earlier (first h) (cond (eqb hour h) rain None)
 
 -- a frame for another hour
 and_other :
@@ -80,25 +81,25 @@ module _ (n : ℕ) (first : ℕ → Option (List ℕ)) (t : Table) (a : AddsUp n
       other : (h : ℕ) → h < hours_of_month → and_then first hour rain h ≡ first h
       other h below = and_other first hour rain h (λ (e : h ≡ hour). omega arith)
 
-  module _ (rain : List ℕ) (below : hour < hours_of_month) (nothing_yet : first hour ≡ none) where
-    now_this : and_then first hour (some rain) hour ≡ some rain
-    now_this = and_this first hour (some rain) ∙ ap (λ (o : Option (List ℕ)). earlier o (some rain)) nothing_yet
+  module _ (rain : List ℕ) (below : hour < hours_of_month) (nothing_yet : first hour ≡ None) where
+    now_this : and_then first hour (Some rain) hour ≡ Some rain
+    now_this = and_this first hour (Some rain) ∙ ap (λ (o : Option (List ℕ)). earlier o (Some rain)) nothing_yet
 
     -- each total grows by its cell
     grown :
         (i : ℕ) → i < n
-        → get_or (added_to t.totals rain) i 0 ≡ sum_over hours_of_month (λ h. cell_in i (and_then first hour (some rain) h))
+        → get_or (added_to t.totals rain) i 0 ≡ sum_over hours_of_month (λ h. cell_in i (and_then first hour (Some rain) h))
     grown i fits =
         added_at t.totals rain i (omega (arith, a.cells_are))
         ∙ ap (λ (s : ℕ). s + get_or rain i 0) (a.totals_are i fits)
         ∙ sym
         (sum_more hours_of_month hour (get_or rain i 0) (λ h. cell_in i (first h))
-        (λ h. cell_in i (and_then first hour (some rain) h))
+        (λ h. cell_in i (and_then first hour (Some rain) h))
         below (ap (cell_in i) nothing_yet) (ap (cell_in i) now_this)
-        (λ h apart. ap (cell_in i) (and_other first hour (some rain) h apart)))
+        (λ h apart. ap (cell_in i) (and_other first hour (Some rain) h apart)))
 
     -- the frame added and the hour marked
-    adds_one : AddsUp n (and_then first hour (some rain)) (with_frame t hour rain)
+    adds_one : AddsUp n (and_then first hour (Some rain)) (with_frame t hour rain)
     adds_one =
         record {
           cells_are = added_length t.totals rain ∙ a.cells_are;
@@ -109,13 +110,13 @@ module _ (n : ℕ) (first : ℕ → Option (List ℕ)) (t : Table) (a : AddsUp n
       where
         go :
             (h : ℕ) → h < hours_of_month → Dec (h ≡ hour)
-            → get_or (set t.marks hour 1) h 0 ≡ mark_of (and_then first hour (some rain) h)
+            → get_or (set t.marks hour 1) h 0 ≡ mark_of (and_then first hour (Some rain) h)
         go h less (yes e) =
             rw e (get_or-set_same t.marks hour 1 0 (rw a.hours_are below) ∙ sym (ap mark_of now_this))
         go h less (no apart) =
             get_or-set_other t.marks hour h 1 0 apart
             ∙ a.marks_are h less
-            ∙ sym (ap mark_of (and_other first hour (some rain) h apart))
+            ∙ sym (ap mark_of (and_other first hour (Some rain) h apart))
 
 -- a table that adds up to small frames
 pub record Right (n : ℕ) (first : ℕ → Option (List ℕ)) (t : Table) : Type 0 where
@@ -128,7 +129,7 @@ unfolding hours_of_month
 month_fits = lit< tt
 
 -- an outcome whose table adds up, and which has this answer
-record Well (n : ℕ) (first : ℕ → Option (List ℕ)) (answer : Counted) (o : Outcome) : Type 0 where
+record Well (n : ℕ) (first : ℕ → Option (List ℕ)) (answer : Result Counted Error) (o : Outcome) : Type 0 where
   adds : AddsUp n first o.table
   answers : o.answer ≡ answer
 
@@ -140,21 +141,21 @@ module _ (n : ℕ) (first : ℕ → Option (List ℕ)) (t : Table) (right : Righ
   small_and : (hour : ℕ) (rain : Option (List ℕ)) → Small rain → (h : ℕ) → Small (and_then first hour rain h)
   small_and hour rain fine h = go (first h) (right.small h) (eqb hour h)
     where
-      go : (o : Option (List ℕ)) → Small o → (b : Bool) → Small (earlier o (cond b rain none))
-      go none less true = fine
-      go none less false = less
-      go (some x) less b = less
+      go : (o : Option (List ℕ)) → Small o → (b : Bool) → Small (earlier o (cond b rain None))
+      go None less true = fine
+      go None less false = less
+      go (Some x) less b = less
 
-  module _ (hour : ℕ) (below : hour < hours_of_month) (nothing_yet : first hour ≡ none) where
+  module _ (hour : ℕ) (below : hour < hours_of_month) (nothing_yet : first hour ≡ None) where
     -- no total passes 64 bits
-    fits : (rain : List ℕ) → Small (some rain) → first_past (added_to t.totals rain) ≡ none
+    fits : (rain : List ℕ) → Small (Some rain) → first_past (added_to t.totals rain) ≡ None
     fits rain fine =
         none_past (added_to t.totals rain)
         (λ i less.
-        let cell : ℕ → ℕ = λ h. cell_in i (and_then first hour (some rain) h) in
+        let cell : ℕ → ℕ = λ h. cell_in i (and_then first hour (Some rain) h) in
         let one_of_them : i < n = omega (arith, added_length t.totals rain, a.cells_are) in
         rw (grown n first t a hour rain below nothing_yet i one_of_them)
-        (omega (arith, month_fits, sum_bound hours_of_month cell (λ h. small_and hour (some rain) fine h i))))
+        (omega (arith, month_fits, sum_bound hours_of_month cell (λ h. small_and hour (Some rain) fine h i))))
 
     -- a frame for an hour that has none
     well_frame :
@@ -162,7 +163,7 @@ module _ (n : ℕ) (first : ℕ → Option (List ℕ)) (t : Table) (right : Righ
         → Well n (and_then first hour (rain_of frame)) (answer_to frame) (counting_frame t hour frame)
     unfolding counting_frame
     well_frame (unread e) fine =
-        record { adds = adds_late n first t a hour none (earlier_none (first hour)); answers = refl }
+        record { adds = adds_late n first t a hour None (earlier_none (first hour)); answers = refl }
     well_frame (cells used rain) fine =
         rw (fits rain fine) (record { adds = adds_one n first t a hour rain below nothing_yet; answers = refl })
 
@@ -179,13 +180,13 @@ module _ (n : ℕ) (first : ℕ → Option (List ℕ)) (t : Table) (right : Righ
       go :
           (below : Bool) → ltb c.hour hours_of_month ≡ below → (o : Option (List ℕ)) → first c.hour ≡ o
           → Well n (and_then first c.hour (rain_of frame))
-          (cond below (unless_counted o (answer_to frame)) (Refused (InvalidHour c.hour)))
-          (cond below (cond (is_marked t c.hour) (unchanged t Already) (counting_frame t c.hour frame))
-          (unchanged t (Refused (InvalidHour c.hour))))
-      go true is none nothing_yet =
+          (cond below (unless_counted o (answer_to frame)) (Err (InvalidHour c.hour)))
+          (cond below (cond (is_marked t c.hour) (unchanged t (Ok Already)) (counting_frame t c.hour frame))
+          (unchanged t (Err (InvalidHour c.hour))))
+      go true is None nothing_yet =
           let below = ltb-true c.hour hours_of_month is in
           rw (marked_is n first t a c.hour below, nothing_yet) (well_frame c.hour below nothing_yet frame fine)
-      go true is (some rain) has =
+      go true is (Some rain) has =
           let below = ltb-true c.hour hours_of_month is in
           rw (marked_is n first t a c.hour below, has)
           (record { adds = adds_late n first t a c.hour (rain_of frame) (rw has); answers = refl })
@@ -214,7 +215,7 @@ pub right_same :
 right_same n f g t same right = rw (← fun_ext same) right
 
 -- a fresh table adds up to no frame
-pub fresh_right : (n : ℕ) → Right n (λ h. none) (fresh n)
+pub fresh_right : (n : ℕ) → Right n (λ h. None) (fresh n)
 unfolding fresh
 fresh_right n =
     record {

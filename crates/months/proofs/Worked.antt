@@ -1,6 +1,7 @@
 -- A month at work, computed: one cell, and calls that meet every answer but 21; then tables that are not fresh, for the
 -- largest total, 21, and a mark other than 1.
 -- Assumes nothing.
+use Rattle.std.specs.Prelude.{Result, Ok, Err}
 use mathlib.Core.Path.{◌≡◌, refl}
 use mathlib.Core.List.{List, [], ◌∷◌, ◌++◌}
 use Prim.Native.Nat.{ℕ, ◌-◌, ◌^◌}
@@ -16,8 +17,9 @@ use Rattle.rules.specs.Bytes.{same_bytes, repeated}
 use Rattle.rules.specs.Chunk.{chunk_from, chunk_at, colour_of, times_of, size_of}
 use Rattle.rules.specs.Reading.{marker, closing, start_place, pixels_brought, pixel_after, place_after, bytes_of, move_by, move, reading, reading_into, after_wanted, after_header, whole_reading}
 use Rattle.rules.specs.Decode.{decoder_stores, decoder_keeps, decoder_reads_rgba}
+use Rattle.pixel.specs.declared.error.Error.{Error}
 use Rattle.totals.specs.declared.Counted.{Counted}
-use Rattle.totals.specs.declared.Counted.TheVariants.{Done, Already, Refused}
+use Rattle.totals.specs.declared.Counted.TheVariants.{Done, Already}
 use Rattle.totals.specs.Counting.{hours_of_month, Table, fresh, cells_of, frame_from, frame_of, fitting, added_to, first_past, counting_frame, Call, unchanged, counting}
 use Rattle.months.specs.Month.{month}
 
@@ -54,7 +56,7 @@ calls =
     ∷ []
 
 -- the answers of calls one after another
-unfoldable pub answers : Table → List Call → List Counted
+unfoldable pub answers : Table → List Call → List (Result Counted Error)
 answers t [] = []
 answers t (c ∷ cs) = (counting t c).answer ∷ answers (counting t c).table cs
 
@@ -70,18 +72,18 @@ marked = record { totals = 0 ∷ 0 ∷ []; marks = set (replicate 744 0) 5 7 }
 -- would pass it, and a 7 is a mark
 pub at_work :
     (answers (fresh 1) calls
-    ≡ (Refused (InvalidChannels 3)
-    ∷ Refused ended_early
-    ∷ Refused (InvalidCellCount 2 1)
-    ∷ Done 27
-    ∷ Already
-    ∷ Done 27
-    ∷ Refused (InvalidHour 744)
+    ≡ (Err (InvalidChannels 3)
+    ∷ Err ended_early
+    ∷ Err (InvalidCellCount 2 1)
+    ∷ Ok (Done 27)
+    ∷ Ok Already
+    ∷ Ok (Done 27)
+    ∷ Err (InvalidHour 744)
     ∷ []))
     × ((month (fresh 1) calls).totals ≡ 4294967298 ∷ [])
     × ((counting (table_of 5 (2 ^ 64 - 4)) (call_of 5 three_twice)).table.totals ≡ 8 ∷ (2 ^ 64 - 1) ∷ [])
     × (counting (table_of 5 (2 ^ 64 - 3)) (call_of 5 three_twice)
-    ≡ unchanged (table_of 5 (2 ^ 64 - 3)) (Refused (TotalTooLarge 1)))
-    × (counting marked (call_of 5 three_twice) ≡ unchanged marked Already)
+    ≡ unchanged (table_of 5 (2 ^ 64 - 3)) (Err (TotalTooLarge 1)))
+    × (counting marked (call_of 5 three_twice) ≡ unchanged marked (Ok Already))
 unfolding answers month message_of hours_of_month fresh cells_of frame_from frame_of fitting added_to first_past counting_frame counting slot_of header_bytes header_from after_color_space after_channels header_of chunk_from chunk_at colour_of times_of size_of same_bytes repeated closing start_place pixels_brought pixel_after place_after bytes_of move_by move reading reading_into after_wanted after_header whole_reading decoder_stores decoder_keeps decoder_reads_rgba
 at_work = (refl, refl, refl, refl, refl)

@@ -1,7 +1,6 @@
 -- Document 02's Q-13, deliveries: calls that come again, in any order, and a month delivered at least once.
-use Rattle.std.specs.Prelude.{cond, ◌≡◌, ℕ, zero, suc, ◌*◌, ◌≤◌, ◌<◌, ltb}
+use Rattle.std.specs.Prelude.{cond, ◌≡◌, ℕ, zero, suc, ◌*◌, ◌≤◌, ◌<◌, ltb, Option, None}
 use mathlib.Core.List.{List, [], ◌∷◌, ◌++◌, Memᴰ}
-use Rattle.std.proofs.Math.Option.{Option, none}
 use Rattle.totals.specs.Counting.{Call}
 use Rattle.months.specs.Month.{brings}
 
@@ -47,4 +46,4 @@ pub record AtLeastOnce (cell_count : ℕ) (sent : ℕ → List ℕ) (k : ℕ) (d
 -- the frame of an hour below k: what the call that delivers it brings
 unfoldable pub sent_for : ℕ → (ℕ → List ℕ) → ℕ → ℕ → Option (List ℕ)
 sent_for cell_count sent k hour =
-    cond (ltb hour k) (brings cell_count (call_for cell_count sent hour)) none
+    cond (ltb hour k) (brings cell_count (call_for cell_count sent hour)) None

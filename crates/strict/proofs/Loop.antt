@@ -1,5 +1,6 @@
 -- The loop over the chunks: what holds at its head, what a chunk makes of it, and how it ends.
 -- Assumes nothing.
+use Rattle.std.specs.Prelude.{Ok, Option, Some, None}
 use mathlib.Core.Path.{◌≡◌, refl, sym, ◌∙◌, ap}
 use mathlib.Core.List.{List}
 use Prim.Native.Nat.{ℕ, zero, suc, ◌+◌, ◌-◌, ◌≤◌, ◌<◌}
@@ -10,7 +11,6 @@ use Rattle.pixel.specs.declared.error.Error.TheVariants.{InvalidPadding, RunPast
 use Rattle.pixel.specs.Refusal.{ended_early}
 use Rattle.pixel.specs.Types.{channels_number}
 use Rattle.header.specs.declared.Header.{Header}
-use Rattle.header.specs.declared.HeaderRead.TheVariants as header_read
 use Rattle.header.specs.Header.{pixel_count, header_of}
 use Rattle.header.proofs.Laws.{header_accepted, pixels_small}
 use Rattle.rules.specs.Chunk.{Chunk, chunk, chunk_at, times_of, size_of, INDEX, DIFF, LUMA, RUN, RGB, RGBA}
@@ -33,12 +33,12 @@ chunk_here header message at = chunk_at (decoder_reads_rgba (channels_number hea
 
 module _ (header : Header) (message : List ℕ) where
   -- the reader's answer is that
-  abbrev pub Holds : ℕ → Found → Type 0
+  abbrev pub Holds : ℕ → Option Found → Type 0
   Holds at r = chunk_here header message at ≡ found_of r
 
   -- what the reader found in the part from a place on
   pub finds :
-      (at : ℕ) (r r' : Found) → r ≡ r'
+      (at : ℕ) (r r' : Option Found) → r ≡ r'
       → found_of r
       ≡ chunk_at (decoder_reads_rgba (channels_number header.channels)) (take (length message - at) (drop at message))
       → Holds at r'
@@ -46,7 +46,7 @@ module _ (header : Header) (message : List ℕ) where
 
   -- before the first chunk
   pub begins :
-      header_of message ≡ header_read.Ok header → (left : ℕ) → left ≡ pixel_count header
+      header_of message ≡ Ok header → (left : ℕ) → left ≡ pixel_count header
       → Head header message (pixel_count header) left 14 0
   unfolding strict strict_header
   begins reads left counted =
@@ -69,11 +69,11 @@ module _ {header : Header} {message : List ℕ} {pixels left at chunks : ℕ}
 
   -- a chunk lies within the message
   pub within :
-      (r : Found) (k : Chunk) → found_of r ≡ chunk k → Holds header message at r → at + size_of k ≤ length message
+      (r : Option Found) (k : Chunk) → found_of r ≡ chunk k → Holds header message at r → at + size_of k ≤ length message
   within r k is f = omega (arith, h.inside, simp length-drop at (sound k (f ∙ is)).fits)
 
   -- a run counts a pixel
-  pub run_some : (times : ℕ) → Holds header message at (found.Run times) → 1 ≤ times
+  pub run_some : (times : ℕ) → Holds header message at (Some (found.Run times)) → 1 ≤ times
   unfolding times_of
   run_some times f = (sound (RUN times) f).once
 
@@ -89,7 +89,7 @@ module _ {header : Header} {message : List ℕ} {pixels left at chunks : ℕ}
   module _ (turn : 0 < left) where
     -- one move of the check
     moved :
-        (r : Found) → Holds header message at r
+        (r : Option Found) → Holds header message at r
         → strict message
         ≡ check_on (strict_from header message (pixels - (chunks + 1))) (strict_by header message here (found_of r))
     unfolding strict_from strict_move
@@ -99,31 +99,31 @@ module _ {header : Header} {message : List ℕ} {pixels left at chunks : ℕ}
         h.same ∙ rw (more, some, f)
 
     -- a chunk that is cut short
-    pub ends_cut : Holds header message at found.Cut → strict message ≡ rejected ended_early
+    pub ends_cut : Holds header message at None → strict message ≡ rejected ended_early
     unfolding strict_by
-    ends_cut f = moved found.Cut f
+    ends_cut f = moved None f
 
     -- an ff that is stuck: of the chunks of colour it alone takes no byte
     pub ends_stuck :
-        (c : Colour) → Holds header message at (found.Colour c) → size_of (chunk_of c) ≡ 0
+        (c : Colour) → Holds header message at (Some (found.Colour c)) → size_of (chunk_of c) ≡ 0
         → strict message ≡ rejected InvalidPadding
     unfolding strict_by size_of
     ends_stuck (colour.Diff r g b) f none = absurd (omega arith)
     ends_stuck (colour.Luma g r b) f none = absurd (omega arith)
     ends_stuck (colour.Rgb r g b) f none = absurd (omega arith)
     ends_stuck (colour.Rgba r g b a) f none = absurd (omega arith)
-    ends_stuck colour.Stuck f none = moved (found.Colour colour.Stuck) f
+    ends_stuck colour.Stuck f none = moved (Some (found.Colour colour.Stuck)) f
 
     -- a run that is too long
     pub ends_run :
-        (times : ℕ) → Holds header message at (found.Run times) → left < times
+        (times : ℕ) → Holds header message at (Some (found.Run times)) → left < times
         → strict message ≡ rejected RunPastImage
     unfolding strict_by strict_counted times_of
-    ends_run times f long = moved (found.Run times) f ∙ rw (lt-leb times left long)
+    ends_run times f long = moved (Some (found.Run times)) f ∙ rw (lt-leb times left long)
 
     -- a chunk that fits: the check goes on after it
     advance :
-        (r : Found) → Holds header message at r → (k : Chunk) → found_of r ≡ chunk k
+        (r : Option Found) → Holds header message at r → (k : Chunk) → found_of r ≡ chunk k
         → strict_by header message here (chunk k) ≡ strict_counted header message here k → times_of k ≤ left
         → Head header message pixels (left - times_of k) (at + size_of k) (chunks + 1)
     unfolding strict_counted
@@ -136,23 +136,23 @@ module _ {header : Header} {message : List ℕ} {pixels left at chunks : ℕ}
         }
 
     pub after_index :
-        (slot : ℕ) → Holds header message at (found.Index slot)
+        (slot : ℕ) → Holds header message at (Some (found.Index slot))
         → Head header message pixels (left - 1) (at + 1) (chunks + 1)
     unfolding strict_by times_of size_of
-    after_index slot f = advance (found.Index slot) f (INDEX slot) refl refl turn
+    after_index slot f = advance (Some (found.Index slot)) f (INDEX slot) refl refl turn
 
     pub after_run :
-        (times : ℕ) → Holds header message at (found.Run times) → times ≤ left
+        (times : ℕ) → Holds header message at (Some (found.Run times)) → times ≤ left
         → Head header message pixels (left - times) (at + 1) (chunks + 1)
     unfolding strict_by times_of size_of
-    after_run times f fits = advance (found.Run times) f (RUN times) refl refl fits
+    after_run times f fits = advance (Some (found.Run times)) f (RUN times) refl refl fits
 
     pub after_colour :
-        (c : Colour) → Holds header message at (found.Colour c) → 0 < size_of (chunk_of c)
+        (c : Colour) → Holds header message at (Some (found.Colour c)) → 0 < size_of (chunk_of c)
         → Head header message pixels (left - 1) (at + size_of (chunk_of c)) (chunks + 1)
     unfolding strict_by times_of size_of
-    after_colour (colour.Diff r g b) f some = advance (found.Colour (colour.Diff r g b)) f (DIFF r g b) refl refl turn
-    after_colour (colour.Luma g r b) f some = advance (found.Colour (colour.Luma g r b)) f (LUMA g r b) refl refl turn
-    after_colour (colour.Rgb r g b) f some = advance (found.Colour (colour.Rgb r g b)) f (RGB r g b) refl refl turn
-    after_colour (colour.Rgba r g b a) f some = advance (found.Colour (colour.Rgba r g b a)) f (RGBA r g b a) refl refl turn
+    after_colour (colour.Diff r g b) f some = advance (Some (found.Colour (colour.Diff r g b))) f (DIFF r g b) refl refl turn
+    after_colour (colour.Luma g r b) f some = advance (Some (found.Colour (colour.Luma g r b))) f (LUMA g r b) refl refl turn
+    after_colour (colour.Rgb r g b) f some = advance (Some (found.Colour (colour.Rgb r g b))) f (RGB r g b) refl refl turn
+    after_colour (colour.Rgba r g b a) f some = advance (Some (found.Colour (colour.Rgba r g b a))) f (RGBA r g b a) refl refl turn
     after_colour colour.Stuck f some = absurd (omega arith)

@@ -2,73 +2,64 @@
 // counts chunks and bytes.
 #![tactic(auto)]
 
-ghost use Rattle.std.specs.Prelude.{◌≡◌, ◌≤◌, ltb, length};
+ghost use Rattle.std.specs.Prelude.{◌≡◌, ◌≤◌, length};
 ghost use Rattle.header.specs.Header.{header_of};
-ghost use Rattle.header.specs.declared.HeaderRead.TheVariants as header_read;
 ghost use Rattle.rules.specs.Reading.{closing};
 ghost use Rattle.rules.specs.Strict.{strict as strictly, strict_closed};
 ghost use Rattle.strict.specs.Checked.{verdict_of};
 
-use chunk::{Ending, Found};
-use header::{Header, HeaderRead};
+use chunk::Found;
+use header::Header;
 use pixel::consts::{QOI_HEADER_SIZE, QOI_PADDING_SIZE};
 use pixel::error::Error;
 use quick::Counted;
 
 mod quick;
 
-#[derive(Clone, Copy)]
-pub enum StrictAnswer {
-    // The header, how many chunks, and how many bytes in all.
-    Accepted {
-        header: Header,
-        chunks: usize,
-        bytes: usize,
-    },
-    Refused(Error),
+// A message that passes: its header, how many chunks it has, and how many bytes in all.
+#[derive(Clone, Copy, Debug, PartialEq, Eq, Hash)]
+pub struct Accepted {
+    pub header: Header,
+    pub chunks: usize,
+    pub bytes: usize,
 }
 
 // Checks a whole message; nothing is written.
-pub fn strict(message: &[u8]) -> StrictAnswer
+pub fn strict(message: &[u8]) -> Result<Accepted, Error>
     ensures { verdict_of result ≡ strictly message.now }
 {
-    match Header::decode(message) {
-        HeaderRead::Refused(e) => StrictAnswer::Refused(e),
-        HeaderRead::Ok(header) => check(message, header),
-    }
+    let header = Header::decode(message)?;
+    check(message, header)
 }
 
 // The chunks and the end of a message with this header: 1, 8 at once for an ff that is stuck, and 10.
-fn check(message: &[u8], header: Header) -> StrictAnswer
-    requires { header_of message.now ≡ header_read.Ok header }
+fn check(message: &[u8], header: Header) -> Result<Accepted, Error>
+    requires { header_of message.now ≡ Ok header }
     ensures { verdict_of result ≡ strictly message.now }
 {
-    let source = header.channels;
-    let reached = quick::quick(
-        message,
-        header,
-        Counted {
-            at: QOI_HEADER_SIZE,
-            left: header.n_pixels(),
-            chunks: 0,
-        },
-    );
-    let mut left = reached.left;
-    let mut at = reached.at;
-    let mut chunks = reached.chunks;
+    let start = Counted {
+        at: QOI_HEADER_SIZE,
+        left: header.n_pixels(),
+        chunks: 0,
+    };
+    let Counted {
+        mut at,
+        mut left,
+        mut chunks,
+    } = quick::quick(message, header, start);
     while 0 < left {
-        match chunk::read(source, &message[at..]) {
-            Found::Cut => {
-                return StrictAnswer::Refused(Error::UnexpectedBufferEnd { at: 0 });
-            }
+        let Some(found) = chunk::read(header.channels, &message[at..]) else {
+            return Err(Error::UnexpectedBufferEnd { at: 0 });
+        };
+        match found {
             Found::Index(_) => {
                 at += 1;
                 left -= 1;
                 chunks += 1;
             }
             Found::Run(times) => {
-                if is_too_long(times, left) {
-                    return StrictAnswer::Refused(Error::RunPastImage);
+                if left < times as usize {
+                    return Err(Error::RunPastImage);
                 }
                 at += 1;
                 left -= times as usize;
@@ -78,7 +69,7 @@ fn check(message: &[u8], header: Header) -> StrictAnswer
                 let size = chunk::size(colour);
                 // An ff that is stuck takes no byte.
                 if size == 0 {
-                    return StrictAnswer::Refused(Error::InvalidPadding);
+                    return Err(Error::InvalidPadding);
                 }
                 at += size;
                 left -= 1;
@@ -89,32 +80,20 @@ fn check(message: &[u8], header: Header) -> StrictAnswer
     close(message, header, chunks, at)
 }
 
-// Whether a run is longer than the pixels left.
-fn is_too_long(times: u8, left: usize) -> bool
-    ensures { result ≡ ltb left times }
-{
-    left < times as usize
-}
-
 // The end: 1 and 8 as a decode, then 11 where something follows the marker.
-fn close(message: &[u8], header: Header, chunks: usize, end: usize) -> StrictAnswer
+fn close(message: &[u8], header: Header, chunks: usize, end: usize) -> Result<Accepted, Error>
     requires { end ≤ length message.now }
     ensures { verdict_of result
         ≡ strict_closed header message.now chunks (closing 0 message.now end) }
 {
-    match chunk::read_end(&message[end..]) {
-        Ending::Cut => StrictAnswer::Refused(Error::UnexpectedBufferEnd { at: 0 }),
-        Ending::Wrong => StrictAnswer::Refused(Error::InvalidPadding),
-        Ending::Marker => {
-            let bytes = end + QOI_PADDING_SIZE;
-            if bytes < message.len() {
-                return StrictAnswer::Refused(Error::BytesAfterMarker);
-            }
-            StrictAnswer::Accepted {
-                header,
-                chunks,
-                bytes,
-            }
-        }
+    chunk::read_end(&message[end..])?;
+    let bytes = end + QOI_PADDING_SIZE;
+    if bytes < message.len() {
+        return Err(Error::BytesAfterMarker);
     }
+    Ok(Accepted {
+        header,
+        chunks,
+        bytes,
+    })
 }

@@ -4,6 +4,7 @@ ghost use Rattle.header.specs.Header.{pixel_count};
 ghost use Rattle.strict.specs.Asked.{Head};
 
 use header::Header;
+use pixel::consts::{QOI_OP_RGB, QOI_OP_RGBA, QOI_OP_RUN};
 use pixel::types::Channels;
 
 // Where the check stands between two chunks.
@@ -40,28 +41,26 @@ fn round(message: &[u8], header: Header, start: Counted) -> Counted
     ensures { Head header message.now (pixel_count header) result.left result.at result.chunks }
 {
     let source = header.channels;
-    let mut at = start.at;
-    let mut left = start.left;
-    let mut quota = (message.len() - at) / 8;
-    if left < quota {
-        quota = left;
-    }
-    let most = start.chunks + quota;
+    let Counted {
+        mut at,
+        mut left,
+        chunks,
+    } = start;
+    let mut quota = left.min((message.len() - at) / 8);
+    let most = chunks + quota;
     while 0 < quota {
         let byte = message[at];
         if byte / 64 == 2 {
             at += 2;
             left -= 1;
             quota -= 1;
-        } else if byte == 254 {
+        } else if byte == QOI_OP_RGB {
             at += 4;
             left -= 1;
             quota -= 1;
-        } else if byte == 255 {
+        } else if byte == QOI_OP_RGBA {
             match source {
-                Channels::Rgb => {
-                    break;
-                }
+                Channels::Rgb => break,
                 Channels::Rgba => {
                     at += 5;
                     left -= 1;
@@ -89,5 +88,9 @@ fn round(message: &[u8], header: Header, start: Counted) -> Counted
 fn times(byte: u8) -> usize
     ensures { result ≡ cond (ltb byte 192) 1 (byte - 191) }
 {
-    if byte < 192 { 1 } else { byte as usize - 191 }
+    if byte < QOI_OP_RUN {
+        1
+    } else {
+        byte as usize - 191
+    }
 }

@@ -1,7 +1,7 @@
 -- One call, by the way that it goes: what it answers and leaves of the table, and what stands in the frame's buffer.
 -- Assumes nothing.
+use Rattle.std.specs.Prelude.{Ok, Err, None, Some}
 use mathlib.Core.List.{List}
-use mathlib.Core.Option.{none, some}
 use mathlib.Core.Path.{◌≡◌, ap}
 use Prim.Native.Nat.{ℕ, ◌≤◌, ◌<◌}
 use native.Mathlib.Omega.{arith}
@@ -11,8 +11,7 @@ use Rattle.pixel.specs.declared.error.Error.{Error}
 use Rattle.pixel.specs.declared.error.Error.TheVariants.{InvalidHour, TotalTooLarge}
 use Rattle.rules.specs.Bytes.{written_over}
 use Rattle.rules.specs.Decode.{decoding}
-use Rattle.totals.specs.declared.Counted.TheVariants.{Done, Already, Refused}
-use Rattle.totals.specs.declared.FrameRead.TheVariants as frame_read
+use Rattle.totals.specs.declared.Counted.TheVariants.{Done, Already}
 use Rattle.totals.specs.Counting.{hours_of_month, Table, Frame, cells, unread, frame_of, fitting, cells_of, first_past, Outcome, unchanged, with_frame, counting_frame, counting, frame_after}
 use Rattle.totals.specs.Framing.{sums, read_as}
 use Rattle.totals.proofs.Frames.{Stands}
@@ -25,12 +24,12 @@ module _ (t : Table) (hour : ℕ) (message before : List ℕ) where
       × (frame_after t hour message before ≡ after)
 
   -- an hour above 743
-  pub above : 743 < hour → Leaves (unchanged t (Refused (InvalidHour hour))) before
+  pub above : 743 < hour → Leaves (unchanged t (Err (InvalidHour hour))) before
   unfolding counting frame_after hours_of_month
   above h = let high = le-ltb hour 744 (omega arith) in (rw high, rw high)
 
   -- a marked hour
-  pub marked : hour ≤ 743 → (get_or t.marks hour 0 ≡ 0 → ⊥) → Leaves (unchanged t Already) before
+  pub marked : hour ≤ 743 → (get_or t.marks hour 0 ≡ 0 → ⊥) → Leaves (unchanged t (Ok Already)) before
   unfolding counting frame_after hours_of_month
   marked h there =
       let low = lt-ltb hour 744 (omega arith) in
@@ -50,27 +49,27 @@ module _ (t : Table) (hour : ℕ) (message before : List ℕ) where
 
 module _ (t : Table) (hour : ℕ) (frame : Frame) where
   -- a frame that is not read
-  pub counts_unread : (e : Error) → read_as frame ≡ frame_read.Refused e → counting_frame t hour frame ≡ unchanged t (Refused e)
+  pub counts_unread : (e : Error) → read_as frame ≡ Err e → counting_frame t hour frame ≡ unchanged t (Err e)
   unfolding counting_frame
   counts_unread e is = go frame is
     where
-      go : (f : Frame) → read_as f ≡ frame_read.Refused e → counting_frame t hour f ≡ unchanged t (Refused e)
-      go (unread e') is = let same : e' ≡ e = cc in ap (λ (x : Error). unchanged t (Refused x)) same
+      go : (f : Frame) → read_as f ≡ Err e → counting_frame t hour f ≡ unchanged t (Err e)
+      go (unread e') is = let same : e' ≡ e = cc in ap (λ (x : Error). unchanged t (Err x)) same
       go (cells used rain) is = absurd (let z : ◌≡◌ {A = ℕ} 0 1 = cc in omega arith)
 
   -- one that stands in a buffer, with a total that would pass 2^64-1
   pub counts_past :
       (used cell : ℕ) (buffer : List ℕ) → Stands (length t.totals) used frame buffer
-      → first_past (sums t.totals buffer) ≡ some cell
-      → counting_frame t hour frame ≡ unchanged t (Refused (TotalTooLarge cell))
+      → first_past (sums t.totals buffer) ≡ Some cell
+      → counting_frame t hour frame ≡ unchanged t (Err (TotalTooLarge cell))
   unfolding counting_frame
   counts_past used cell buffer there past = rw (there.is, past)
 
   -- and with none
   pub counts_whole :
       (used : ℕ) (buffer : List ℕ) → Stands (length t.totals) used frame buffer
-      → first_past (sums t.totals buffer) ≡ none
+      → first_past (sums t.totals buffer) ≡ None
       → counting_frame t hour frame
-      ≡ record { answer = Done used; table = with_frame t hour (cells_of (length t.totals) buffer) }
+      ≡ record { answer = Ok (Done used); table = with_frame t hour (cells_of (length t.totals) buffer) }
   unfolding counting_frame
   counts_whole used buffer there past = rw (there.is, past)

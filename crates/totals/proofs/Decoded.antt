@@ -1,5 +1,6 @@
 -- What a decode to four channels writes: four bytes for each pixel, and bytes where the message has bytes.
 -- Assumes nothing.
+use Rattle.std.specs.Prelude.{Result, Ok, Err}
 use mathlib.Core.Bool.{Bool, true, false, cond}
 use mathlib.Core.List.{List, [], ◌∷◌, ◌++◌}
 use mathlib.Core.Path.{◌≡◌, refl}
@@ -16,14 +17,13 @@ use Rattle.pixel.specs.Bytes.{AllBytes}
 use Rattle.pixel.specs.Colour.{pixel_of, clear_pixel, slot_of}
 use Rattle.pixel.specs.Types.{channels_number}
 use Rattle.header.specs.declared.Header.{Header}
-use Rattle.header.specs.declared.HeaderRead.{HeaderRead}
-use Rattle.header.specs.declared.HeaderRead.TheVariants as header_read
 use Rattle.header.specs.Header.{pixel_count, header_of}
 use Rattle.rules.specs.Bytes.{repeated}
 use Rattle.rules.specs.Chunk.{Chunk, Found, cut, chunk, needing, chunk_from, chunk_at, colour_of, times_of}
 use Rattle.rules.specs.Reading.{Place, Answer, done, refused, Move, more, end, Reading, silent, read_on, closing, start_place, size_wanted, pixels_brought, pixel_after, place_after, bytes_of, move_by, move, reading, remaining, reading_into, after_wanted, after_header, whole_reading}
 use Rattle.rules.specs.Decode.{decoder, decoder_keeps, decoder_reads_rgba, decoding}
 use Rattle.totals.proofs.Sums.{either}
+use Rattle.pixel.specs.declared.error.Error.{Error}
 
 repeated_length : (n : ℕ) (l : List ℕ) → length l ≡ 4 → length (repeated n l) ≡ n * 4
 unfolding repeated
@@ -214,11 +214,11 @@ module _ (Fine : ℕ → Type 0) (wraps : (x : ℕ) → Fine (x % 256)) (nought 
           go later v (ended past) = record { fine = fine_none; whole = λ size used accepted. omega arith }
 
   -- a decode: its bytes, and where it is accepted, the header, and that a whole picture was written and had room
-  record FineDecode (m : List ℕ) (room : ℕ) (h : HeaderRead) (r : Reading) : Type 0 where
+  record FineDecode (m : List ℕ) (room : ℕ) (h : Result Header Error) (r : Reading) : Type 0 where
     fine : AllFine r.bytes
     whole :
         (size used : ℕ) → r.answer ≡ done size used
-        → (header : Header) × (h ≡ header_read.Ok header)
+        → (header : Header) × (h ≡ Ok header)
         × (length r.bytes ≡ pixel_count header * 4) × (pixel_count header * 4 ≤ room)
 
   fine_decode : (m : List ℕ) (room : ℕ) → AllFine m → FineDecode m room (header_of m) (decoding m 4 room)
@@ -227,7 +227,7 @@ module _ (Fine : ℕ → Type 0) (wraps : (x : ℕ) → Fine (x % 256)) (nought 
     where
       into :
           (header : Header) (b : Bool) → ltb room (size_wanted header 4) ≡ b
-          → FineDecode m room (header_read.Ok header)
+          → FineDecode m room (Ok header)
           (cond b (silent (refused (OutputBufferTooSmall room (size_wanted header 4)))) (remaining decoder header 4 m start_place))
       into header true is =
           record {
@@ -241,13 +241,13 @@ module _ (Fine : ℕ → Type 0) (wraps : (x : ℕ) → Fine (x % 256)) (nought 
             whole = λ size used accepted. (header, refl, omega (arith, r.whole size used accepted), ltb-false _ _ is);
           }
 
-      opened : (h : HeaderRead) → FineDecode m room h (after_header decoder m room 4 h)
-      opened (header_read.Refused e) =
+      opened : (h : Result Header Error) → FineDecode m room h (after_header decoder m room 4 h)
+      opened (Err e) =
           record {
             fine = fine_none;
             whole = λ size used accepted. absurd (let z : ◌≡◌ {A = ℕ} 0 1 = cc in omega arith);
           }
-      opened (header_read.Ok header) = into header (ltb room (size_wanted header 4)) refl
+      opened (Ok header) = into header (ltb room (size_wanted header 4)) refl
 
 -- a message of bytes decodes to bytes
 pub decoded_bytes : (m : List ℕ) (room : ℕ) → AllBytes m → AllBytes (decoding m 4 room).bytes
@@ -261,6 +261,6 @@ decoded_bytes m room all i below =
 -- a decode that is accepted has a header, and writes a whole picture, for which there is room
 pub decoded_whole :
     (m : List ℕ) (room size used : ℕ) → (decoding m 4 room).answer ≡ done size used
-    → (header : Header) × (header_of m ≡ header_read.Ok header)
+    → (header : Header) × (header_of m ≡ Ok header)
     × (length (decoding m 4 room).bytes ≡ pixel_count header * 4) × (pixel_count header * 4 ≤ room)
 decoded_whole m room = (fine_decode (λ x. Unit {0}) (λ x. tt) tt tt m room (λ i. tt)).whole

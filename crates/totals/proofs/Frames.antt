@@ -1,5 +1,6 @@
 -- Laws of a frame: what a message's decode makes of it, and that the cells of one that fits stand in the buffer.
 -- Assumes nothing.
+use Rattle.std.specs.Prelude.{Ok, Err}
 use mathlib.Core.List.{List, ◌∷◌, ◌++◌}
 use mathlib.Core.Path.{◌≡◌, refl, sym, ◌∙◌, ap, ap₂}
 use Prim.Native.Nat.{ℕ, zero, suc, ◌+◌, ◌*◌, ◌≤◌, ◌<◌}
@@ -14,12 +15,10 @@ use Rattle.pixel.specs.declared.error.Error.TheVariants.{InvalidChannels, Invali
 use Rattle.pixel.specs.declared.types.Channels.{Channels}
 use Rattle.pixel.specs.declared.types.Channels.TheVariants.{Rgb, Rgba}
 use Rattle.header.specs.declared.Header.{Header}
-use Rattle.header.specs.declared.HeaderRead.TheVariants as header_read
 use Rattle.header.specs.Header.{pixel_count, header_of, number_at}
 use Rattle.rules.specs.Bytes.{written_over}
 use Rattle.rules.specs.Reading.{Answer, done, refused}
 use Rattle.rules.specs.Decode.{decoding}
-use Rattle.totals.specs.declared.FrameRead.TheVariants as frame_read
 use Rattle.totals.specs.Counting.{cells_of, Frame, cells, unread, frame_from, frame_of, fitting}
 use Rattle.totals.specs.Framing.{read_as}
 use Rattle.totals.proofs.Sums.{cells_length}
@@ -47,7 +46,7 @@ module _ (m : List ℕ) (room : ℕ) where
   frame_refused e is = rw is
 
   module _
-      (header : Header) (size used : ℕ) (opened : header_of m ≡ header_read.Ok header)
+      (header : Header) (size used : ℕ) (opened : header_of m ≡ Ok header)
       (accepted : (decoding m 4 room).answer ≡ done size used) where
     -- one that is accepted, of three channels
     pub frame_three : header.channels ≡ Rgb → frame_of m room ≡ unread (InvalidChannels 3)
@@ -60,7 +59,7 @@ module _ (m : List ℕ) (room : ℕ) where
     frame_four four = rw (opened, accepted, four)
 
 -- a frame that is not read
-pub unread_as : (n : ℕ) (frame : Frame) (e : Error) → frame ≡ unread e → read_as (fitting n frame) ≡ frame_read.Refused e
+pub unread_as : (n : ℕ) (frame : Frame) (e : Error) → frame ≡ unread e → read_as (fitting n frame) ≡ Err e
 unfolding fitting
 unread_as n frame e is = rw is
 
@@ -73,13 +72,13 @@ fitted n used pixels frame bytes is same = rw (is, eq-eqb (length (cells_of pixe
 
 pub fits_as :
     (n used pixels : ℕ) (frame : Frame) (bytes : List ℕ) → frame ≡ cells used (cells_of pixels bytes) → pixels ≡ n
-    → read_as (fitting n frame) ≡ frame_read.Ok used
+    → read_as (fitting n frame) ≡ Ok used
 fits_as n used pixels frame bytes is same = ap read_as (fitted n used pixels frame bytes is same)
 
 -- and one that has not
 pub other_as :
     (n used pixels : ℕ) (frame : Frame) (bytes : List ℕ) → frame ≡ cells used (cells_of pixels bytes) → (pixels ≡ n → ⊥)
-    → read_as (fitting n frame) ≡ frame_read.Refused (InvalidCellCount pixels n)
+    → read_as (fitting n frame) ≡ Err (InvalidCellCount pixels n)
 unfolding fitting
 other_as n used pixels frame bytes is other =
     rw (is, ne_eqb (length (cells_of pixels bytes)) n (λ e. other (sym (cells_length pixels bytes) ∙ e)), cells_length pixels bytes)
@@ -91,7 +90,7 @@ pub record Stands (n used : ℕ) (frame : Frame) (buffer : List ℕ) : Type 0 wh
 
 -- a frame that was read stands in the buffer
 pub stands :
-    (m before : List ℕ) (n used : ℕ) → read_as (fitting n (frame_of m (length before))) ≡ frame_read.Ok used
+    (m before : List ℕ) (n used : ℕ) → read_as (fitting n (frame_of m (length before))) ≡ Ok used
     → Stands n used (fitting n (frame_of m (length before))) (written_over (decoding m 4 (length before)).bytes before)
 stands m before n used ok = by (decoding m 4 (length before)).answer refl
   where
@@ -128,12 +127,12 @@ stands m before n used ok = by (decoding m 4 (length before)).answer refl
     by (done size used') is = channelled w.0 w.1 w.2 w.0.channels refl
       where
         w :
-            (header : Header) × (header_of m ≡ header_read.Ok header) × (length bytes ≡ pixel_count header * 4)
+            (header : Header) × (header_of m ≡ Ok header) × (length bytes ≡ pixel_count header * 4)
             × (pixel_count header * 4 ≤ length before)
         w = decoded_whole m (length before) size used' is
 
         channelled :
-            (header : Header) → header_of m ≡ header_read.Ok header → length bytes ≡ pixel_count header * 4
+            (header : Header) → header_of m ≡ Ok header → length bytes ≡ pixel_count header * 4
             → (channels : Channels) → header.channels ≡ channels → Stands n used (fitting n frame) (written_over bytes before)
         channelled header opened sized Rgb three =
             refuses (InvalidChannels 3) (frame_three m (length before) header size used' opened is three)

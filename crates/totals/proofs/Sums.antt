@@ -1,11 +1,10 @@
 -- Laws of a frame's cells, of totals with a frame added, and of the first one that is past 2^64-1.
 -- Assumes nothing.
+use Rattle.std.specs.Prelude.{Option, None, Some, option_map}
 use mathlib.Core.Bool.{Bool, true, false, cond}
 use mathlib.Core.List.{List, [], ◌∷◌, ◌++◌}
-use mathlib.Core.Option.{Option, none, some, map}
 use mathlib.Core.Path.{◌≡◌, refl, sym, ◌∙◌, ap}
 use Prim.Native.Nat.{ℕ, zero, suc, ◌+◌, ◌*◌, ◌/◌, ◌^◌, ◌≤◌, ◌<◌}
-use native.Mathlib.Decide.{dec_lt}
 use native.Mathlib.Omega.{arith}
 use borrow.Author.Tests.{lt-ltb, le-ltb, ltb-true}
 use lib.Dec.{ltb}
@@ -13,7 +12,7 @@ use lib.ListN.{length, get_or, set, take, drop}
 use lib.Seq.{get_or-drop, length-take-le, drop-cons, take-suc, append_snoc, get_or_at, set_at}
 use Rattle.header.specs.Header.{number_at}
 use Rattle.totals.specs.Counting.{cells_of, added_to, first_past}
-use Rattle.totals.specs.Framing.{sums, HighBelow}
+use Rattle.totals.specs.Framing.{sums}
 
 -- what holds of both branches holds
 pub either : {A : Type 0} (P : A → Type 0) (b : Bool) (x y : A) → P x → P y → P (cond b x y)
@@ -68,43 +67,34 @@ abbrev pub Fits64 : List ℕ → Type 0
 Fits64 ts = (i : ℕ) → i < length ts → get_or ts i 0 < 2 ^ 64
 
 -- where each fits, none is past
-pub none_past : (ts : List ℕ) → Fits64 ts → first_past ts ≡ none
+pub none_past : (ts : List ℕ) → Fits64 ts → first_past ts ≡ None
 unfolding first_past
 none_past [] fits = refl
 none_past (t ∷ ts) fits =
     rw (lt-ltb t (2 ^ 64) (fits 0 (omega arith)), none_past ts (λ i below. fits (suc i) (omega arith)))
 
 -- and back
-pub past_none : (ts : List ℕ) → first_past ts ≡ none → Fits64 ts
+pub past_none : (ts : List ℕ) → first_past ts ≡ None → Fits64 ts
 unfolding first_past
 past_none [] e i below = absurd (omega arith)
 past_none (t ∷ ts) e i below = go (past_none ts) (ltb t (2 ^ 64)) refl (first_past ts) refl e i below
   where
     go :
-        (first_past ts ≡ none → Fits64 ts) → (b : Bool) → ltb t (2 ^ 64) ≡ b → (o : Option ℕ) → first_past ts ≡ o
-        → cond b (map suc o) (some 0) ≡ none → Fits64 (t ∷ ts)
-    go rest true small none is e zero below = ltb-true t (2 ^ 64) small
-    go rest true small none is e (suc i) below = rest is i (omega arith)
-    go rest true small (some k) is e i below = absurd (let z : ◌≡◌ {A = ℕ} 0 1 = cc in omega arith)
+        (first_past ts ≡ None → Fits64 ts) → (b : Bool) → ltb t (2 ^ 64) ≡ b → (o : Option ℕ) → first_past ts ≡ o
+        → cond b (option_map suc o) (Some 0) ≡ None → Fits64 (t ∷ ts)
+    go rest true small None is e zero below = ltb-true t (2 ^ 64) small
+    go rest true small None is e (suc i) below = rest is i (omega arith)
+    go rest true small (Some k) is e i below = absurd (let z : ◌≡◌ {A = ℕ} 0 1 = cc in omega arith)
     go rest false small o is e i below = absurd (let z : ◌≡◌ {A = ℕ} 0 1 = cc in omega arith)
 
 -- the first that does not fit
 pub first_at :
-    (ts : List ℕ) (i : ℕ) → i < length ts → ((k : ℕ) → k < i → get_or ts k 0 < 2 ^ 64) → 2 ^ 64 ≤ get_or ts i 0 → first_past ts ≡ some i
+    (ts : List ℕ) (i : ℕ) → i < length ts → ((k : ℕ) → k < i → get_or ts k 0 < 2 ^ 64) → 2 ^ 64 ≤ get_or ts i 0 → first_past ts ≡ Some i
 unfolding first_past
 first_at [] i below before past = absurd (omega arith)
 first_at (t ∷ ts) zero below before past = rw (le-ltb t (2 ^ 64) past)
 first_at (t ∷ ts) (suc i) below before past =
     rw (lt-ltb t (2 ^ 64) (before 0 (omega arith)), first_at ts i (omega arith) (λ k less. before (suc k) (omega arith)) past)
-
--- one block of small high halves after another
-pub high_on :
-    (ts : List ℕ) (i end small bound : ℕ) → HighBelow ts 0 i bound → HighBelow ts i end small → small ≤ bound → HighBelow ts 0 end bound
-high_on ts i end small bound before block less k below least = go (dec_lt k i)
-  where
-    go : Dec (k < i) → get_or ts k 0 / 4294967296 < bound
-    go (yes passed) = before k passed least
-    go (no from) = omega (arith, block k below (omega (arith, from)))
 
 -- no frame of bytes brings a total with a small high half past 2^64-1
 pub sure_sum :

@@ -1,19 +1,17 @@
 -- Document 02's Q-13, one call: the table, the frame's cells, what is added, and the order of refusals.
 -- The order reads from the bottom up: the last definition of it makes the first test.
-use Rattle.std.specs.Prelude.{Bool, cond, not, ◌&&◌, List, [], ◌∷◌, ◌≡◌, ℕ, zero, suc, ◌+◌, ◌^◌, ltb, eqb, length, get_or, set, drop, replicate}
-use Rattle.std.proofs.Math.Option.{Option, none, some, map}
+use Rattle.std.specs.Prelude.{Bool, cond, not, ◌&&◌, List, [], ◌∷◌, ◌≡◌, ℕ, zero, suc, ◌+◌, ◌^◌, ltb, eqb, length, get_or, set, drop, replicate, Result, Ok, Err, Option, None, Some, option_map}
 use Rattle.pixel.specs.declared.error.Error.{Error}
 use Rattle.pixel.specs.declared.error.Error.TheVariants.{InvalidChannels, InvalidHour, InvalidCellCount, TotalTooLarge}
 use Rattle.pixel.specs.declared.types.Channels.{Channels}
 use Rattle.pixel.specs.declared.types.Channels.TheVariants.{Rgb, Rgba}
-use Rattle.header.specs.declared.HeaderRead.{HeaderRead}
-use Rattle.header.specs.declared.HeaderRead.TheVariants as header_read
 use Rattle.header.specs.Header.{pixel_count, header_of, number_at}
 use Rattle.rules.specs.Bytes.{written_over}
 use Rattle.rules.specs.Reading.{Answer, done, refused}
 use Rattle.rules.specs.Decode.{decoding}
 use Rattle.totals.specs.declared.Counted.{Counted}
-use Rattle.totals.specs.declared.Counted.TheVariants.{Done, Already, Refused}
+use Rattle.totals.specs.declared.Counted.TheVariants.{Done, Already}
+use Rattle.header.specs.declared.Header.{Header}
 
 -- the month's hours are 0 to 743
 unfoldable pub hours_of_month : ℕ
@@ -44,8 +42,8 @@ added_to (t ∷ ts) rain = (t + get_or rain 0 0) ∷ added_to ts (drop 1 rain)
 
 -- the first total that is past 2^64-1
 unfoldable pub first_past : List ℕ → Option ℕ
-first_past [] = none
-first_past (t ∷ ts) = cond (ltb t (2 ^ 64)) (map suc (first_past ts)) (some 0)
+first_past [] = None
+first_past (t ∷ ts) = cond (ltb t (2 ^ 64)) (option_map suc (first_past ts)) (Some 0)
 
 -- a frame: the message bytes used and its cells, or why there are none
 pub data Frame : Type 0 where
@@ -58,10 +56,10 @@ with_four Rgb used rain = unread (InvalidChannels 3)
 with_four Rgba used rain = cells used rain
 
 -- the decode's refusals come first; it accepts no message whose header is refused
-unfoldable pub frame_from : HeaderRead → Answer → List ℕ → Frame
+unfoldable pub frame_from : Result Header Error → Answer → List ℕ → Frame
 frame_from header (refused e) bytes = unread e
-frame_from (header_read.Refused e) (done size used) bytes = unread e
-frame_from (header_read.Ok header) (done size used) bytes =
+frame_from (Err e) (done size used) bytes = unread e
+frame_from (Ok header) (done size used) bytes =
     with_four header.channels used (cells_of (pixel_count header) bytes)
 
 -- a message wholly decoded to four channels into a buffer of `room` bytes
@@ -77,11 +75,11 @@ fitting cell_count (cells used rain) =
 
 -- an answer, and the table after it
 pub record Outcome : Type 0 where
-  pub answer : Counted
+  pub answer : Result Counted Error
   pub table : Table
 
 -- a refusal, and 'counted already', leave the table as it was
-abbrev pub unchanged : Table → Counted → Outcome
+abbrev pub unchanged : Table → Result Counted Error → Outcome
 unchanged t answer = record { answer = answer; table = t }
 
 -- a frame added, and its hour marked
@@ -90,12 +88,12 @@ with_frame t hour rain = record { totals = added_to t.totals rain; marks = set t
 
 -- 21 for the first cell whose total would pass 2^64-1; else the frame is counted
 abbrev pub unless_past : Table → ℕ → ℕ → List ℕ → Option ℕ → Outcome
-unless_past t hour used rain (some cell) = unchanged t (Refused (TotalTooLarge cell))
-unless_past t hour used rain none = record { answer = Done used; table = with_frame t hour rain }
+unless_past t hour used rain (Some cell) = unchanged t (Err (TotalTooLarge cell))
+unless_past t hour used rain None = record { answer = Ok (Done used); table = with_frame t hour rain }
 
 -- a frame's refusal; then its cells
 unfoldable pub counting_frame : Table → ℕ → Frame → Outcome
-counting_frame t hour (unread e) = unchanged t (Refused e)
+counting_frame t hour (unread e) = unchanged t (Err e)
 counting_frame t hour (cells used rain) = unless_past t hour used rain (first_past (added_to t.totals rain))
 
 -- a call: the hour, its message, and the size of the buffer that the frame is decoded into
@@ -108,9 +106,9 @@ pub record Call : Type 0 where
 unfoldable pub counting : Table → Call → Outcome
 counting t c =
     cond (ltb c.hour hours_of_month)
-    (cond (is_marked t c.hour) (unchanged t Already)
+    (cond (is_marked t c.hour) (unchanged t (Ok Already))
     (counting_frame t c.hour (fitting (length t.totals) (frame_of c.message c.room))))
-    (unchanged t (Refused (InvalidHour c.hour)))
+    (unchanged t (Err (InvalidHour c.hour)))
 
 -- what stands in the frame's buffer then: as it was after 19 and 'counted already', else what the decode to four leaves
 unfoldable pub frame_after : Table → ℕ → List ℕ → List ℕ → List ℕ
@@ -120,7 +118,7 @@ frame_after t hour message before =
 
 -- What a call leaves, given hour, message, a frame's buffer that held `before` and the totals and marks of a table:
 -- its answer, the buffer, the totals and the marks.
-abbrev pub Counts : ℕ → List ℕ → List ℕ → List ℕ → List ℕ → Counted → List ℕ → List ℕ → List ℕ → Type 0
+abbrev pub Counts : ℕ → List ℕ → List ℕ → List ℕ → List ℕ → Result Counted Error → List ℕ → List ℕ → List ℕ → Type 0
 Counts hour message before totals marks r after totals' marks' =
     let table : Table = record { totals = totals; marks = marks } in
     let call : Call = record { hour = hour; message = message; room = length before } in

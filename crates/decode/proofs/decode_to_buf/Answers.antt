@@ -1,17 +1,13 @@
 -- `decode::decode_to_buf` meets its contract: the header's channels are the wanted ones.
--- Assumes nothing.
-use mathlib.Core.Path.{refl}
+use Rattle.std.proofs.Common.{rules}
+use Rattle.header.proofs.Laws.{channels_read_back}
+use Rattle.rules.specs.Reading.{whole_reading, after_header, after_wanted}
 use Rattle.decode.proofs.decode_to_buf.Goals as goal
 
-pub returns-in-Refused : goal.returns-in-Refused
-returns-in-Refused c = rw (← c.decode.ensures, c.in-Refused.is) (refl, refl)
+pub returns-in_err-with_channels : goal.returns-in_err-with_channels
+unfolding whole_reading after_header after_wanted
+returns-in_err-with_channels c = search (rules, channels_read_back c.in_ok-header.header.channels)
 
-pub returns-in-Refused-decode : goal.returns-in-Refused-decode
-returns-in-Refused-decode c =
-    rw (← c.decode.ensures, c.in-Ok.is, ← c.as_u8.ensures, ← c.decode-in-Ok.ensures.0, c.in-Refused-decode.is)
-    (refl, rw c.as_u8.ensures at c.decode-in-Ok.ensures.1)
-
-pub returns-in-Done : goal.returns-in-Done
-returns-in-Done c =
-    rw (← c.decode.ensures, c.in-Ok.is, ← c.as_u8.ensures, ← c.decode-in-Ok.ensures.0, c.in-Done.is)
-    (refl, rw c.as_u8.ensures at c.decode-in-Ok.ensures.1)
+pub returns : goal.returns
+unfolding whole_reading after_header after_wanted
+returns c = search (rules, channels_read_back c.in_ok-header.header.channels)

@@ -1,42 +1,32 @@
 -- `decode::rest` meets its contract: the part from a place on is all that follows it, and lies there.
--- Assumes nothing.
-use mathlib.Core.Path.{◌≡◌, refl, sym, ◌∙◌, ap}
-use Prim.Native.Nat.{ℕ, ◌+◌, ◌≤◌, min}
-use native.Mathlib.Nat.{le_of_lt}
-use native.Mathlib.Omega.{arith}
-use lib.ListN.{drop_of_length-le}
-use lib.Seq.{drop-length}
+use Rattle.std.proofs.Common.{rules, ◌≡◌, ℕ, ◌+◌, ◌-◌, List, length, min, take, drop}
+use Rattle.std.proofs.lemmas.List.{drop_min}
+use Rattle.std.proofs.Math.Seq.{drop-length}
+use Rattle.std.specs.Prelude.{Result, Ok, Err, MatchResult}
+use mathlib.Core.Path.{ap, ◌∙◌}
+use Rattle.pixel.specs.declared.error.Error.{Error}
 use Rattle.rules.specs.Decode.{rest_of}
 use Rattle.rules.proofs.PastingLaws.{whole_tail}
+use Rattle.decode.specs.declared.Decoded.{Decoded}
+use Rattle.decode.specs.Decoded.{answer_of, rest_at}
 use Rattle.decode.proofs.rest.Goals as goal
 
--- a part that starts at the one place starts at the other
-starts_there : (p : ℕ × ℕ) (a b : ℕ) → a ≡ b → ◌≡◌ {A = ℕ × ℕ} (p.0, a + p.1) (p.0, b + p.1)
-starts_there p a b e = ap (λ (n : ℕ). (p.0, n + p.1)) e
+-- the place that `map_or` gives
+abbrev IsUsed : List ℕ → Result Decoded Error → ℕ → Type 0
+IsUsed m answer used =
+    MatchResult answer (λ (done : Decoded). used ≡ min done.used (length m)) (λ (e : Error). used ≡ length m)
 
-lesser_first : (a b : ℕ) → a ≤ b → a ≡ min a b
-lesser_first a b h = omega arith
-
-lesser_second : (a b : ℕ) → b ≤ a → b ≡ min a b
-lesser_second a b h = omega arith
-
-pub returns-in-Refused : goal.returns-in-Refused
+follows :
+    (m : List ℕ) (answer : Result Decoded Error) (used : ℕ) → IsUsed m answer used
+    → (used ≡ rest_at (length m) (answer_of answer))
+    × (take (length m - used) (drop used m) ≡ rest_of m (answer_of answer))
 unfolding rest_of
-returns-in-Refused c =
-    let m = c.args.message in
-    rw c.in-Refused.is (refl, whole_tail m.now _ ∙ drop-length m.now)
+follows m (Err e) used is = (is, rw is (whole_tail m _ ∙ drop-length m))
+follows m (Ok done) used is = (is, rw is (whole_tail m _ ∙ drop_min done.used m))
 
-pub returns-then-used-end : goal.returns-then-used-end
-unfolding rest_of
-returns-then-used-end c =
+pub returns : goal.returns
+returns c =
     let m = c.args.message in
-    rw c.in-Done.is
-    (starts_there m.ref_ptr _ _ (lesser_first _ _ c.if-used-end.true), whole_tail m.now _)
-
-pub returns-else-used-end : goal.returns-else-used-end
-unfolding rest_of
-returns-else-used-end c =
-    let m = c.args.message in
-    let past = le_of_lt c.if-used-end.false in
-    rw c.in-Done.is
-    (starts_there m.ref_ptr _ _ (lesser_second _ _ past), whole_tail m.now _ ∙ drop-length m.now ∙ sym (drop_of_length-le m.now past))
+    let is : IsUsed m.now c.args.decoded c.map_or-used.result = search rules in
+    let e = follows m.now c.args.decoded _ is in
+    (ap (λ (n : ℕ). (m.ref_ptr.0, n + m.ref_ptr.1)) e.0, e.1)

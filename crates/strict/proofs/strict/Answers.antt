@@ -1,8 +1,8 @@
 -- `strict::strict` meets its contract: the header's refusal, or the check of the message that it is the header of.
--- Assumes nothing.
+use Rattle.std.proofs.Common.{rules}
 use Rattle.rules.specs.Strict.{strict, strict_header}
 use Rattle.strict.proofs.strict.Goals as goal
 
-pub returns-in-Refused : goal.returns-in-Refused
+pub returns-in_err-header : goal.returns-in_err-header
 unfolding strict strict_header
-returns-in-Refused c = rw (← c.decode.ensures, c.in-Refused.is)
+returns-in_err-header c = search rules

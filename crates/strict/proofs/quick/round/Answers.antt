@@ -1,6 +1,5 @@
 -- `strict::quick::round` meets its contract: each arm is a row of the chunk table, and wherever the loop stops, the
 -- check from there is the check of the message.
--- Assumes nothing.
 use mathlib.Core.List.{List}
 use mathlib.Core.Path.{◌∙◌, subst}
 use Prim.Native.Nat.{ℕ, ◌+◌, ◌-◌, ◌≤◌, ◌<◌}
