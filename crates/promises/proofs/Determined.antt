@@ -11,10 +11,17 @@ use Rattle.pixel.proofs.packed as packed
 use Rattle.pixel.proofs.error as error
 use Rattle.pixel.proofs.error.Error as Error
 use Rattle.pixel.proofs.types.Channels as Channels
+use Rattle.pixel.proofs.types.ChannelsDefault as ChannelsDefault
+use Rattle.pixel.proofs.types.ChannelsTryFromU64 as ChannelsTryFromU64
+use Rattle.pixel.proofs.types.U8FromChannels as U8FromChannels
+use Rattle.pixel.proofs.types.U8FromColorSpace as U8FromColorSpace
 use Rattle.pixel.proofs.types.ColorSpace as ColorSpace
+use Rattle.pixel.proofs.types.ColorSpaceDefault as ColorSpaceDefault
+use Rattle.pixel.proofs.types.ColorSpaceTryFromU64 as ColorSpaceTryFromU64
 use Rattle.number.proofs as number
 use Rattle.header.proofs as header
 use Rattle.header.proofs.Header as Header
+use Rattle.header.proofs.HeaderDefault as HeaderDefault
 use Rattle.chunk.proofs as chunk
 use Rattle.walk.proofs as walk
 use Rattle.resume.proofs.Decoder as Decoder
@@ -130,8 +137,8 @@ pixel-error-put_text κs a z z' e e' ok ok' p q =
     let out = p.1 ∙ sym q.1 in
     (p.0 ∙ sym q.0, λ i. (tt, (out i, tt)))
 
-pub pixel-types-Channels-default : Determined Channels.default.Kinds.ps Channels.default.Kinds.r Channels.default.Reads.Post
-pixel-types-Channels-default κs a z z' e e' ok ok' p q = (p ∙ sym q, refl)
+pub pixel-types-ChannelsDefault-default : Determined ChannelsDefault.default.Kinds.ps ChannelsDefault.default.Kinds.r ChannelsDefault.default.Reads.Post
+pixel-types-ChannelsDefault-default κs a z z' e e' ok ok' p q = (p ∙ sym q, refl)
 
 pub pixel-types-Channels-is_rgb : Determined Channels.is_rgb.Kinds.ps Channels.is_rgb.Kinds.r Channels.is_rgb.Reads.Post
 pixel-types-Channels-is_rgb κs a z z' e e' ok ok' p q = (p ∙ sym q, refl)
@@ -142,11 +149,14 @@ pixel-types-Channels-is_rgba κs a z z' e e' ok ok' p q = (p ∙ sym q, refl)
 pub pixel-types-Channels-as_u8 : Determined Channels.as_u8.Kinds.ps Channels.as_u8.Kinds.r Channels.as_u8.Reads.Post
 pixel-types-Channels-as_u8 κs a z z' e e' ok ok' p q = (p ∙ sym q, refl)
 
-pub pixel-types-Channels-try_from : Determined Channels.try_from.Kinds.ps Channels.try_from.Kinds.r Channels.try_from.Reads.Post
-pixel-types-Channels-try_from κs a z z' e e' ok ok' p q = (p ∙ sym q, refl)
+pub pixel-types-ChannelsTryFromU64-try_from : Determined ChannelsTryFromU64.try_from.Kinds.ps ChannelsTryFromU64.try_from.Kinds.r ChannelsTryFromU64.try_from.Reads.Post
+pixel-types-ChannelsTryFromU64-try_from κs a z z' e e' ok ok' p q = (p ∙ sym q, refl)
 
-pub pixel-types-ColorSpace-default : Determined ColorSpace.default.Kinds.ps ColorSpace.default.Kinds.r ColorSpace.default.Reads.Post
-pixel-types-ColorSpace-default κs a z z' e e' ok ok' p q = (p ∙ sym q, refl)
+pub pixel-types-U8FromChannels-from : Determined U8FromChannels.from.Kinds.ps U8FromChannels.from.Kinds.r U8FromChannels.from.Reads.Post
+pixel-types-U8FromChannels-from κs a z z' e e' ok ok' p q = (p ∙ sym q, refl)
+
+pub pixel-types-ColorSpaceDefault-default : Determined ColorSpaceDefault.default.Kinds.ps ColorSpaceDefault.default.Kinds.r ColorSpaceDefault.default.Reads.Post
+pixel-types-ColorSpaceDefault-default κs a z z' e e' ok ok' p q = (p ∙ sym q, refl)
 
 pub pixel-types-ColorSpace-is_srgb : Determined ColorSpace.is_srgb.Kinds.ps ColorSpace.is_srgb.Kinds.r ColorSpace.is_srgb.Reads.Post
 pixel-types-ColorSpace-is_srgb κs a z z' e e' ok ok' p q = (p ∙ sym q, refl)
@@ -157,8 +167,11 @@ pixel-types-ColorSpace-is_linear κs a z z' e e' ok ok' p q = (p ∙ sym q, refl
 pub pixel-types-ColorSpace-as_u8 : Determined ColorSpace.as_u8.Kinds.ps ColorSpace.as_u8.Kinds.r ColorSpace.as_u8.Reads.Post
 pixel-types-ColorSpace-as_u8 κs a z z' e e' ok ok' p q = (p ∙ sym q, refl)
 
-pub pixel-types-ColorSpace-try_from : Determined ColorSpace.try_from.Kinds.ps ColorSpace.try_from.Kinds.r ColorSpace.try_from.Reads.Post
-pixel-types-ColorSpace-try_from κs a z z' e e' ok ok' p q = (p ∙ sym q, refl)
+pub pixel-types-ColorSpaceTryFromU64-try_from : Determined ColorSpaceTryFromU64.try_from.Kinds.ps ColorSpaceTryFromU64.try_from.Kinds.r ColorSpaceTryFromU64.try_from.Reads.Post
+pixel-types-ColorSpaceTryFromU64-try_from κs a z z' e e' ok ok' p q = (p ∙ sym q, refl)
+
+pub pixel-types-U8FromColorSpace-from : Determined U8FromColorSpace.from.Kinds.ps U8FromColorSpace.from.Kinds.r U8FromColorSpace.from.Reads.Post
+pixel-types-U8FromColorSpace-from κs a z z' e e' ok ok' p q = (p ∙ sym q, refl)
 
 -- ---- crate `number`
 pub number-read : Determined number.read.Kinds.ps number.read.Kinds.r number.read.Reads.Post
@@ -173,8 +186,8 @@ number-write κs a z z' e e' ok ok' p q =
     (p.0 ∙ sym q.0, λ i. (tt, (out i, tt)))
 
 -- ---- crate `header`
-pub header-Header-default : Determined Header.default.Kinds.ps Header.default.Kinds.r Header.default.Reads.Post
-header-Header-default κs a z z' e e' ok ok' p q = (p ∙ sym q, refl)
+pub header-HeaderDefault-default : Determined HeaderDefault.default.Kinds.ps HeaderDefault.default.Kinds.r HeaderDefault.default.Reads.Post
+header-HeaderDefault-default κs a z z' e e' ok ok' p q = (p ∙ sym q, refl)
 
 pub header-Header-try_new : Determined Header.try_new.Kinds.ps Header.try_new.Kinds.r Header.try_new.Reads.Post
 header-Header-try_new κs a z z' e e' ok ok' p q = (p ∙ sym q, refl)

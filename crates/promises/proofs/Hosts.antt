@@ -1,5 +1,6 @@
 -- Demand 3 for hosts, proved: a host's history is one of `demands`, so it ends as pivotshade_decode.
 -- Assumes nothing.
+use Rattle.std.specs.Prelude.{Result, Ok, Err}
 use mathlib.Core.Path.{◌≡◌, refl, sym, ◌∙◌, ap}
 use mathlib.Core.List.{List, ◌∷◌, ◌++◌}
 use Prim.Native.Nat.{ℕ, ◌+◌, ◌^◌, ◌≤◌, ◌<◌}
@@ -8,14 +9,10 @@ use borrow.Author.Tests.{le-ltb}
 use lib.ListN.{length, take}
 use Rattle.pixel.specs.declared.error.Error.{Error}
 use Rattle.pixel.specs.declared.error.Error.TheVariants.{UnexpectedBufferEnd, InvalidChannels, InvalidColorSpace, InvalidMagic, InvalidImageDimensions, InvalidImageLength, OutputBufferTooSmall, InvalidPadding, BadState, RunPastImage, BytesAfterMarker, OtherMessage, InvalidHour, InvalidCellCount, TotalTooLarge}
-use Rattle.pixel.specs.declared.types.ChannelsRead.{ChannelsRead}
-use Rattle.pixel.specs.declared.types.ChannelsRead.TheVariants as channels_read
 use Rattle.pixel.specs.Bytes.{AllBytes}
 use Rattle.pixel.specs.Refusal.{number_of}
 use Rattle.pixel.specs.Types.{channels_from}
 use Rattle.header.specs.declared.Header.{Header}
-use Rattle.header.specs.declared.HeaderRead.{HeaderRead}
-use Rattle.header.specs.declared.HeaderRead.TheVariants as header_read
 use Rattle.header.specs.Header.{pixel_count, header_of}
 use Rattle.header.proofs.Laws.{is_true}
 use Rattle.rules.specs.Reading.{Answer, done, refused, silent, after_wanted, after_header, whole_reading}
@@ -38,6 +35,7 @@ use Rattle.demands.proofs.Inside.{inside_keeps_before}
 use Rattle.demands.proofs.Written.{written_record}
 use Rattle.qoi.specs.Hosted.{started_figures, started_over, recorded_figures, ran_figures, ran_next, host_figures, host_out, host_next}
 use Rattle.promises.specs.Hosts.{says, returned, record_room, Host, starts, runs, takes_over, EndsAsDecode, TakesOver, Starts, TestsRecord, RefusesRecord}
+use Rattle.pixel.specs.declared.types.Channels.{Channels}
 
 -- what refuses a start refuses the decode
 refused_start :
@@ -49,14 +47,14 @@ refused_start m number w room e is = heading (header_of m) is
     told x is = let same : x ≡ e = cc in ap (λ (y : Error). silent (refused y)) same
 
     wanting :
-        (header : Header) (c : ChannelsRead) → start_wanted header number c ≡ not_started e
+        (header : Header) (c : Result Channels Error) → start_wanted header number c ≡ not_started e
         → after_wanted decoder m room header c ≡ silent (refused e)
-    wanting header (channels_read.Refused x) is = told x is
-    wanting header (channels_read.Ok c) is = absurd (let z : ◌≡◌ {A = ℕ} 0 1 = cc in omega arith)
+    wanting header (Err x) is = told x is
+    wanting header (Ok c) is = absurd (let z : ◌≡◌ {A = ℕ} 0 1 = cc in omega arith)
 
-    heading : (r : HeaderRead) → start_header number w r ≡ not_started e → after_header decoder m room w r ≡ silent (refused e)
-    heading (header_read.Refused x) is = told x is
-    heading (header_read.Ok header) is = wanting header (channels_from w) is
+    heading : (r : Result Header Error) → start_header number w r ≡ not_started e → after_header decoder m room w r ≡ silent (refused e)
+    heading (Err x) is = told x is
+    heading (Ok header) is = wanting header (channels_from w) is
 
 -- a refusal's number is neither 0 nor 256
 pub number_small : (e : Error) → (1 ≤ number_of e) × (number_of e ≤ 21)

@@ -1,5 +1,6 @@
 -- Rain totals for hosts: the table that a host keeps is the month of its calls, so what is shown of months holds of it.
 -- Assumes nothing.
+use Rattle.std.specs.Prelude.{Result, Ok, Err}
 use mathlib.Core.List.Memᴰ
 use mathlib.Core.List.{List, [], ◌∷◌}
 use mathlib.Core.Logic.{⊎_elim}
@@ -11,8 +12,9 @@ use denote.Triple.Clauses.{Lasts}
 use borrow.Fn.Kinds.{Dens, res_t, ended_of}
 use lib.ListN.{length}
 use Rattle.pixel.specs.Bytes.{AllBytes}
+use Rattle.pixel.specs.declared.error.Error.{Error}
 use Rattle.totals.specs.declared.Counted.{Counted}
-use Rattle.totals.specs.declared.Counted.TheVariants.{Done, Already, Refused}
+use Rattle.totals.specs.declared.Counted.TheVariants.{Done, Already}
 use Rattle.totals.specs.Counting.{Table, fresh, Call, counting, Counts}
 use Rattle.totals.proofs as totals
 use Rattle.months.specs.Month.{month, MessagesOfBytes, first_for, AddsUp}
@@ -66,10 +68,10 @@ module _ {n : ℕ} {cs : List Call} {t : Table} (kept : Kept n cs t) where
       c : Call
       c = record { hour = hour; message = message; room = length frame }
 
-      below : (a : Counted) → Below a → returned (counted_figures a) ≡ 21 → ⊥
-      below (Done used) low is = omega arith
-      below Already low is = omega arith
-      below (Refused e) low is = omega arith
+      below : (a : Result Counted Error) → Below a → returned (counted_figures a) ≡ 21 → ⊥
+      below (Ok (Done used)) low is = omega arith
+      below (Ok Already) low is = omega arith
+      below (Err e) low is = omega arith
 
 -- `IsCount` is the contract, as the checker reads it off the source
 pub host_count_contract :

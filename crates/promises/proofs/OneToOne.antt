@@ -1,6 +1,8 @@
 -- What contracts speak through is one-to-one: two answers that mean the same are the same.
 -- (Of refusals and of decoders that is `refusal_determined` of `pixel` and `state_determined` of `resume`.)
 -- Assumes nothing.
+use Rattle.std.specs.Prelude.{Option, Some, None, Result, Ok, Err}
+use Rattle.pixel.specs.declared.error.Error.{Error}
 use mathlib.Core.Path.{◌≡◌, refl, sym, ◌∙◌, ap}
 use mathlib.Core.List.{List, ◌∷◌}
 use Prim.Native.Nat.{ℕ, ◌^◌, ◌<◌}
@@ -25,20 +27,16 @@ use Rattle.walk.specs.declared.Place.{Place}
 use Rattle.walk.specs.declared.Walked.{Walked}
 use Rattle.walk.specs.Walking.{Walk, End, place_of, walk_of, ended_of}
 use Rattle.resume.specs.declared.Started.{Started}
-use Rattle.resume.specs.declared.StepAnswer.{StepAnswer}
-use Rattle.resume.specs.declared.StepAnswer.TheVariants as stepped
+use Rattle.resume.specs.declared.Progress.{Progress}
+use Rattle.resume.specs.declared.Progress.TheVariants.{More, Done}
 use Rattle.resume.specs.declared.Stepped.{Stepped}
 use Rattle.resume.specs.Run.{ran_by, ran_of, end_answer}
 use Rattle.resume.specs.State.{state_of, state_determined}
 use Rattle.decode.specs.declared.Decoded.{Decoded}
-use Rattle.decode.specs.declared.Decoded.TheVariants as decoded
-use Rattle.decode.specs.Decoded.{answer_of}
-use Rattle.encode.specs.declared.Encoded.{Encoded}
-use Rattle.encode.specs.declared.Encoded.TheVariants as encoded
+use Rattle.decode.specs.Decoded.{answer_of, decoded}
 use Rattle.encode.specs.Encoded.{answer_of as encoded_of}
-use Rattle.strict.specs.declared.StrictAnswer.{StrictAnswer}
-use Rattle.strict.specs.declared.StrictAnswer.TheVariants as answer
-use Rattle.strict.specs.Checked.{verdict_of}
+use Rattle.strict.specs.declared.Accepted.{Accepted}
+use Rattle.strict.specs.Checked.{verdict_of, passes}
 
 -- a 32-bit number is its four bytes
 packed_again : (p : ℕ) → p < 2 ^ 32 → packed_of (red (unpacked p)) (green (unpacked p)) (blue (unpacked p)) (alpha (unpacked p)) ≡ p
@@ -53,28 +51,28 @@ unpacked_determined p q hp hq same =
     ∙ packed_again q hq
 
 -- the reader's answer for a row of the chunk table
-found_as : table.Found → Found
-found_as cut = found.Cut
-found_as (chunk (INDEX slot)) = found.Index slot
-found_as (chunk (DIFF r g b)) = found.Colour (colour.Diff r g b)
-found_as (chunk (LUMA g r b)) = found.Colour (colour.Luma g r b)
-found_as (chunk (RUN times)) = found.Run times
-found_as (chunk (RGB r g b)) = found.Colour (colour.Rgb r g b)
-found_as (chunk (RGBA r g b a)) = found.Colour (colour.Rgba r g b a)
-found_as (chunk Stuck) = found.Colour colour.Stuck
+found_as : table.Found → Option Found
+found_as cut = None
+found_as (chunk (INDEX slot)) = Some (found.Index slot)
+found_as (chunk (DIFF r g b)) = Some (found.Colour (colour.Diff r g b))
+found_as (chunk (LUMA g r b)) = Some (found.Colour (colour.Luma g r b))
+found_as (chunk (RUN times)) = Some (found.Run times)
+found_as (chunk (RGB r g b)) = Some (found.Colour (colour.Rgb r g b))
+found_as (chunk (RGBA r g b a)) = Some (found.Colour (colour.Rgba r g b a))
+found_as (chunk Stuck) = Some (found.Colour colour.Stuck)
 
-found_again : (f : Found) → found_as (found_of f) ≡ f
+found_again : (f : Option Found) → found_as (found_of f) ≡ f
 unfolding found_as
-found_again found.Cut = refl
-found_again (found.Index slot) = refl
-found_again (found.Run times) = refl
-found_again (found.Colour (colour.Diff r g b)) = refl
-found_again (found.Colour (colour.Luma g r b)) = refl
-found_again (found.Colour (colour.Rgb r g b)) = refl
-found_again (found.Colour (colour.Rgba r g b a)) = refl
-found_again (found.Colour colour.Stuck) = refl
+found_again None = refl
+found_again (Some (found.Index slot)) = refl
+found_again (Some (found.Run times)) = refl
+found_again (Some (found.Colour (colour.Diff r g b))) = refl
+found_again (Some (found.Colour (colour.Luma g r b))) = refl
+found_again (Some (found.Colour (colour.Rgb r g b))) = refl
+found_again (Some (found.Colour (colour.Rgba r g b a))) = refl
+found_again (Some (found.Colour colour.Stuck)) = refl
 
-pub found_determined : (a b : Found) → found_of a ≡ found_of b → a ≡ b
+pub found_determined : (a b : Option Found) → found_of a ≡ found_of b → a ≡ b
 found_determined a b same = sym (found_again a) ∙ ap found_as same ∙ found_again b
 
 -- a place and a walk have the same fields on both sides
@@ -98,8 +96,8 @@ started_determined a b answer state =
     λ i. record { answer = answer i; decoder = decoder i }
 
 -- the answer of a run, and its state
-answer_in : Ran → StepAnswer
-answer_in (going s o) = stepped.More
+answer_in : Ran → Result Progress Error
+answer_in (going s o) = Ok More
 answer_in (ended answer s o) = end_answer answer
 
 state_in : Ran → State
@@ -107,22 +105,22 @@ state_in (going s o) = s
 state_in (ended answer s o) = s
 
 module _ (s : State) (o : List ℕ) where
-  answer_again : (a : StepAnswer) → answer_in (ran_by a s o) ≡ a
+  answer_again : (a : Result Progress Error) → answer_in (ran_by a s o) ≡ a
   unfolding answer_in
-  answer_again stepped.More = refl
-  answer_again (stepped.Done size used) = refl
-  answer_again (stepped.Refused e) = refl
+  answer_again (Ok More) = refl
+  answer_again (Ok (Done size used)) = refl
+  answer_again (Err e) = refl
 
-  state_again : (a : StepAnswer) → state_in (ran_by a s o) ≡ s
+  state_again : (a : Result Progress Error) → state_in (ran_by a s o) ≡ s
   unfolding state_in
-  state_again stepped.More = refl
-  state_again (stepped.Done size used) = refl
-  state_again (stepped.Refused e) = refl
+  state_again (Ok More) = refl
+  state_again (Ok (Done size used)) = refl
+  state_again (Err e) = refl
 
-  output_again : (a : StepAnswer) → output_of (ran_by a s o) ≡ o
-  output_again stepped.More = refl
-  output_again (stepped.Done size used) = refl
-  output_again (stepped.Refused e) = refl
+  output_again : (a : Result Progress Error) → output_of (ran_by a s o) ≡ o
+  output_again (Ok More) = refl
+  output_again (Ok (Done size used)) = refl
+  output_again (Err e) = refl
 
 pub ran_determined : (a b : Stepped) (o o' : List ℕ) → ran_of a o ≡ ran_of b o' → (a ≡ b) × (o ≡ o')
 ran_determined a b o o' same =
@@ -136,36 +134,36 @@ ran_determined a b o o' same =
     )
 
 -- the decode's answer
-decoded_as : Answer → Decoded
-decoded_as (done size used) = decoded.Done size used
-decoded_as (refused e) = decoded.Refused e
+decoded_as : Answer → Result Decoded Error
+decoded_as (done size used) = decoded size used
+decoded_as (refused e) = Err e
 
-decoded_again : (d : Decoded) → decoded_as (answer_of d) ≡ d
+decoded_again : (d : Result Decoded Error) → decoded_as (answer_of d) ≡ d
 unfolding decoded_as
-decoded_again (decoded.Done size used) = refl
-decoded_again (decoded.Refused e) = refl
+decoded_again (Ok d) = refl
+decoded_again (Err e) = refl
 
-pub answer_determined : (a b : Decoded) → answer_of a ≡ answer_of b → a ≡ b
+pub answer_determined : (a b : Result Decoded Error) → answer_of a ≡ answer_of b → a ≡ b
 answer_determined a b same = sym (decoded_again a) ∙ ap decoded_as same ∙ decoded_again b
 
 -- the encode's answer
-pub encoded_determined : (a b : Encoded) → encoded_of a ≡ encoded_of b → a ≡ b
-encoded_determined (encoded.Done n) (encoded.Done k) same = cc
-encoded_determined (encoded.Done n) (encoded.Refused e) same = let z : ◌≡◌ {A = ℕ} 0 1 = cc in absurd (omega arith)
-encoded_determined (encoded.Refused e) (encoded.Done n) same = let z : ◌≡◌ {A = ℕ} 0 1 = cc in absurd (omega arith)
-encoded_determined (encoded.Refused e) (encoded.Refused x) same = cc
+pub encoded_determined : (a b : Result ℕ Error) → encoded_of a ≡ encoded_of b → a ≡ b
+encoded_determined (Ok n) (Ok k) same = cc
+encoded_determined (Ok n) (Err e) same = let z : ◌≡◌ {A = ℕ} 0 1 = cc in absurd (omega arith)
+encoded_determined (Err e) (Ok n) same = let z : ◌≡◌ {A = ℕ} 0 1 = cc in absurd (omega arith)
+encoded_determined (Err e) (Err x) same = cc
 
 -- the strict check's answer
-verdict_as : strict.StrictAnswer → StrictAnswer
-verdict_as (accepted header chunks bytes) = answer.Accepted header chunks bytes
-verdict_as (rejected e) = answer.Refused e
+verdict_as : strict.StrictAnswer → Result Accepted Error
+verdict_as (accepted header chunks bytes) = passes header chunks bytes
+verdict_as (rejected e) = Err e
 
-verdict_again : (s : StrictAnswer) → verdict_as (verdict_of s) ≡ s
+verdict_again : (s : Result Accepted Error) → verdict_as (verdict_of s) ≡ s
 unfolding verdict_as
-verdict_again (answer.Accepted header chunks bytes) = refl
-verdict_again (answer.Refused e) = refl
+verdict_again (Ok s) = refl
+verdict_again (Err e) = refl
 
-pub verdict_determined : (a b : StrictAnswer) → verdict_of a ≡ verdict_of b → a ≡ b
+pub verdict_determined : (a b : Result Accepted Error) → verdict_of a ≡ verdict_of b → a ≡ b
 verdict_determined a b same = sym (verdict_again a) ∙ ap verdict_as same ∙ verdict_again b
 
 -- the number that is returned and the figures beside it

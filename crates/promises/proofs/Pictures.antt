@@ -25,8 +25,7 @@ use Rattle.demands.specs.Streams.{Wrote}
 use Rattle.demands.proofs.ReadBack.{encode_reads_back}
 use Rattle.demands.proofs.Traced.{stream_opens}
 use Rattle.demands.proofs.Wrote.{encode_wrote, encode_must_accept}
-use Rattle.decode.specs.declared.Decoded.TheVariants as decoded
-use Rattle.decode.specs.Decoded.{answer_of, Decodes}
+use Rattle.decode.specs.Decoded.{answer_of, Decodes, decoded}
 use Rattle.decode.proofs as decodes
 use Rattle.encode.specs.Encoded as encode
 use Rattle.encode.specs.Encoded.{Encodes}
@@ -50,7 +49,7 @@ read_back_brings {picture} {stream} opens back =
       document_reads = back.document_is;
       decode_brings = λ before r after fits allowed.
           let is = back.decoder_is (length before) fits in (
-            answer_determined r (decoded.Done (length picture) (length stream)) (allowed.0 ∙ ap (λ (x : Reading). x.answer) is),
+            answer_determined r (decoded (length picture) (length stream)) (allowed.0 ∙ ap (λ (x : Reading). x.answer) is),
             allowed.1 ∙ ap (λ (x : Reading). written_over x.bytes before) is,
           );
       host_brings = λ before figures left fits allowed.

@@ -1,6 +1,7 @@
 -- The strict check for the calls, proved: what it accepts the decodes accept, what must be accepted is, and what encode
 -- wrote is.
 -- Assumes nothing.
+use Rattle.std.specs.Prelude.{Ok}
 use mathlib.Core.Path.{◌≡◌, refl, sym, ◌∙◌, ap}
 use mathlib.Core.List.{List, [], ◌∷◌}
 use Prim.Native.Nat.{ℕ}
@@ -14,7 +15,6 @@ use lib.Seq.{drop-length}
 use Rattle.pixel.specs.Bytes.{AllBytes}
 use Rattle.pixel.specs.Refusal.{number_of}
 use Rattle.header.specs.declared.Header.{Header}
-use Rattle.header.specs.declared.HeaderRead.TheVariants as header_read
 use Rattle.header.specs.Header.{header_of}
 use Rattle.rules.specs.Bytes.{written_over}
 use Rattle.rules.specs.Reading.{done}
@@ -27,11 +27,9 @@ use Rattle.demands.specs.Strict.{Passes}
 use Rattle.demands.proofs.Strict.{strict_accepts, strict_must_accept}
 use Rattle.demands.proofs.Streams.{encode_writes_strictly}
 use Rattle.demands.proofs.Traced.{stream_opens}
-use Rattle.decode.specs.declared.Decoded.TheVariants as decoded
-use Rattle.decode.specs.Decoded.{answer_of}
+use Rattle.decode.specs.Decoded.{answer_of, decoded}
 use Rattle.encode.specs.Encoded as encode
-use Rattle.strict.specs.declared.StrictAnswer.TheVariants as answer
-use Rattle.strict.specs.Checked.{verdict_of}
+use Rattle.strict.specs.Checked.{verdict_of, passes}
 use Rattle.strict.proofs as checks
 use Rattle.qoi.specs.Hosted.{IsStrict}
 use Rattle.qoi.proofs as qoi
@@ -50,7 +48,7 @@ decodable m header chunks bytes p =
     record {
       header_is = p.reads;
       decode_accepts = λ c before r after fits allowed.
-          answer_determined r (decoded.Done _ bytes) (allowed.0 ∙ p.decodes c (length before) fits);
+          answer_determined r (decoded _ bytes) (allowed.0 ∙ p.decodes c (length before) fits);
       host_accepts = λ c before figures left fits allowed.
           allowed.0 ∙ ap answer_figures (p.decodes c (length before) fits);
       runs_fit = p.runs;
@@ -77,7 +75,7 @@ host_strict_accepts m figures chunks bytes allowed is = go (strict m) refl (sym 
 must_pass :
     (m : List ℕ) (wanted room size used : ℕ) → (decoding m wanted room).answer ≡ done size used
     → T (runs_fit m) → used ≡ length m
-    → (header : Header) × (header_of m ≡ header_read.Ok header) × (strict m ≡ accepted header (chunk_count m) used)
+    → (header : Header) × (header_of m ≡ Ok header) × (strict m ≡ accepted header (chunk_count m) used)
 unfolding rest_of
 must_pass m wanted room size used decodes runs all =
     let nothing : drop used m ≡ [] = rw all (drop-length m) in
@@ -86,7 +84,7 @@ must_pass m wanted room size used decodes runs all =
 pub strict_call_must_accept : (m : List ℕ) → StrictMustAccept m
 strict_call_must_accept m wanted size used before r after allowed is runs all s checked =
     let passed = must_pass m wanted (length before) size used (sym allowed.0 ∙ ap answer_of is) runs all in
-    (passed.0, passed.1, verdict_determined s (answer.Accepted passed.0 (chunk_count m) used) (checked ∙ passed.2))
+    (passed.0, passed.1, verdict_determined s (passes passed.0 (chunk_count m) used) (checked ∙ passed.2))
 
 pub host_strict_must_accept : (m : List ℕ) → HostStrictMustAccept m
 host_strict_must_accept m wanted size used before figures left allowed is runs all checked strictly =
@@ -100,7 +98,7 @@ module _ (picture : List ℕ) (width height : ℕ) where
       AllBytes picture → (colorspace : ℕ) (before after : List ℕ) (size : ℕ)
       → (encoding picture width height colorspace (length before)).answer ≡ encoded size
       → after ≡ written_over (encoding picture width height colorspace (length before)).bytes before
-      → (header : Header) × (header_of (take size after) ≡ header_read.Ok header)
+      → (header : Header) × (header_of (take size after) ≡ Ok header)
       × (strict (take size after) ≡ accepted header (length (chunks_of header picture)) size)
   written_strictly bytes colorspace before after size said left =
       let strictly = encode_writes_strictly picture width height colorspace (length before) size bytes said in
@@ -113,7 +111,7 @@ module _ (picture : List ℕ) (width height : ℕ) where
   encode_call_is_strict bytes colorspace before r after size allowed is s checked =
       let said = sym allowed.0 ∙ ap encode.answer_of is in
       let written = written_strictly bytes colorspace before after size said allowed.1 in
-      (written.0, written.1, verdict_determined s (answer.Accepted written.0 _ size) (checked ∙ written.2))
+      (written.0, written.1, verdict_determined s (passes written.0 _ size) (checked ∙ written.2))
 
   pub host_encode_is_strict : HostEncodeIsStrict picture width height
   host_encode_is_strict bytes colorspace before figures left size allowed is checked strictly =

@@ -1,10 +1,9 @@
 -- Demand 2 for the calls. `Encodes` and `Decodes` are the contracts of encode and decode, `IsEncode` and `IsDecode`
 -- those of pivotshade_encode and pivotshade_decode: what holds of whatever they allow.
-use Rattle.std.specs.Prelude.{List, [], ◌∷◌, ◌≡◌, ℕ, ◌*◌, ◌/◌, ◌≤◌, T, length, take}
+use Rattle.std.specs.Prelude.{List, [], ◌∷◌, ◌≡◌, ℕ, ◌*◌, ◌/◌, ◌≤◌, T, length, take, Ok, Result}
 use Rattle.pixel.specs.Bytes.{AllBytes}
 use Rattle.pixel.specs.Types.{channels_number, color_space_number}
 use Rattle.header.specs.declared.Header.{Header}
-use Rattle.header.specs.declared.HeaderRead.TheVariants as header_read
 use Rattle.header.specs.Header.{header_of, encoded_room}
 use Rattle.rules.specs.Bytes.{written_over}
 use Rattle.rules.specs.Document.{document_reading, indexes_filled}
@@ -14,13 +13,11 @@ use Rattle.rules.specs.Record.{read_record}
 use Rattle.rules.specs.Trace.{own_channels}
 use Rattle.demands.specs.ReadBack.{picture_read}
 use Rattle.decode.specs.declared.Decoded.{Decoded}
-use Rattle.decode.specs.declared.Decoded.TheVariants as decoded
-use Rattle.decode.specs.Decoded.{answer_of, Decodes}
-use Rattle.encode.specs.declared.Encoded.{Encoded}
-use Rattle.encode.specs.declared.Encoded.TheVariants as encoded
+use Rattle.decode.specs.Decoded.{answer_of, Decodes, decoded}
 use Rattle.encode.specs.Encoded.{Encodes}
 use Rattle.qoi.specs.Hosted.{IsDecode, IsEncode, host_figures, host_out, host_next}
 use Rattle.promises.specs.Hosts.{says, returned, record_room, Host}
+use Rattle.pixel.specs.declared.error.Error.{Error}
 
 -- the figures of a decode that wrote `size` bytes and used `used` of its message
 abbrev pub says_done : ℕ → ℕ → List ℕ
@@ -36,9 +33,9 @@ pub record Brings (picture message : List ℕ) (width height channels colorspace
       (room : ℕ) → length picture ≤ room → document_reading message channels room ≡ picture_read picture message
   -- decode answers with all its bytes, and leaves the picture followed by what the output held
   pub decode_brings :
-      (before : List ℕ) (r : Decoded) (after : List ℕ) → length picture ≤ length before
+      (before : List ℕ) (r : Result Decoded Error) (after : List ℕ) → length picture ≤ length before
       → Decodes message channels before r after
-      → (r ≡ decoded.Done (length picture) (length message)) × (after ≡ written_over picture before)
+      → (r ≡ decoded (length picture) (length message)) × (after ≡ written_over picture before)
   -- and so does pivotshade_decode
   pub host_brings :
       (before figures left : List ℕ) → length picture ≤ length before → IsDecode message channels before figures left
@@ -57,8 +54,8 @@ pub record Brings (picture message : List ℕ) (width height channels colorspace
 -- is a byte, as in every slice.
 abbrev pub EncodeReadsBack : List ℕ → ℕ → ℕ → Type 0
 EncodeReadsBack picture width height =
-    AllBytes picture → (colorspace : ℕ) (before : List ℕ) (r : Encoded) (after : List ℕ) (size : ℕ)
-    → Encodes (encoding picture width height colorspace (length before)) before r after → r ≡ encoded.Done size
+    AllBytes picture → (colorspace : ℕ) (before : List ℕ) (r : Result ℕ Error) (after : List ℕ) (size : ℕ)
+    → Encodes (encoding picture width height colorspace (length before)) before r after → r ≡ Ok size
     → (size ≤ length before) × Brings picture (take size after) width height (length picture / (width * height)) colorspace
 
 -- and for pivotshade_encode
@@ -72,10 +69,10 @@ HostReadsBack picture width height =
 -- shuts out an encode that refuses
 abbrev pub EncodeAccepts : Header → List ℕ → Type 0
 EncodeAccepts header picture =
-    (before : List ℕ) (r : Encoded) (after : List ℕ)
+    (before : List ℕ) (r : Result ℕ Error) (after : List ℕ)
     → encoded_room header.width header.height (channels_number header.channels) ≤ length before
     → Encodes (encoding picture header.width header.height (color_space_number header.colorspace) (length before)) before r after
-    → r ≡ encoded.Done (length (stream_of header picture))
+    → r ≡ Ok (length (stream_of header picture))
 
 -- and for pivotshade_encode
 abbrev pub HostAccepts : Header → List ℕ → Type 0
@@ -89,16 +86,16 @@ HostAccepts header picture =
 -- of a 4-channel source excepted: answer and output are the document's
 abbrev pub DecodeIsDocument : List ℕ → Type 0
 DecodeIsDocument m =
-    (header : Header) (before : List ℕ) (r : Decoded) (after : List ℕ) (size used : ℕ)
-    → header_of m ≡ header_read.Ok header
-    → T (indexes_filled m) → Decodes m (own_channels header) before r after → r ≡ decoded.Done size used
+    (header : Header) (before : List ℕ) (r : Result Decoded Error) (after : List ℕ) (size used : ℕ)
+    → header_of m ≡ Ok header
+    → T (indexes_filled m) → Decodes m (own_channels header) before r after → r ≡ decoded size used
     → (answer_of r ≡ (document_reading m (own_channels header) (length before)).answer)
     × (after ≡ written_over (document_reading m (own_channels header) (length before)).bytes before)
 
 -- and for pivotshade_decode
 abbrev pub HostIsDocument : List ℕ → Type 0
 HostIsDocument m =
-    (header : Header) (before figures left : List ℕ) (size used : ℕ) → header_of m ≡ header_read.Ok header
+    (header : Header) (before figures left : List ℕ) (size used : ℕ) → header_of m ≡ Ok header
     → T (indexes_filled m) → IsDecode m (own_channels header) before figures left → figures ≡ says_done size used
     → (figures ≡ answer_figures (document_reading m (own_channels header) (length before)).answer)
     × (left ≡ written_over (document_reading m (own_channels header) (length before)).bytes before)

@@ -1,5 +1,6 @@
 -- What a host is answered, and what is left in the parts that it lends; between calls a state travels as its record.
-use Rattle.std.specs.Prelude.{◌≡◌, List, [], ◌∷◌, ℕ, length}
+use Rattle.std.specs.Prelude.{◌≡◌, List, [], ◌∷◌, ℕ, length, Result, Ok, Err}
+use Rattle.pixel.specs.declared.error.Error.{Error}
 use Rattle.text.specs.Text.{put_over}
 use Rattle.pixel.specs.Words.{words_of, worded_in}
 use Rattle.rules.specs.Bytes.{written_over}
@@ -9,7 +10,7 @@ use Rattle.rules.specs.Step.{State, Started, started, not_started, Ran, going, e
 use Rattle.rules.specs.Record.{Recorded, recorded, not_recorded, recording, recorded_over, read_record}
 use Rattle.rules.specs.Strict.{strict}
 use Rattle.totals.specs.declared.Counted.{Counted}
-use Rattle.totals.specs.declared.Counted.TheVariants.{Done, Already, Refused}
+use Rattle.totals.specs.declared.Counted.TheVariants.{Done, Already}
 use Rattle.totals.specs.Counting.{Table, Call, counting, frame_after}
 use Rattle.rules.specs.Figures.{refusal_figures, answer_figures, encode_figures, strict_figures, worded_figures}
 
@@ -19,10 +20,10 @@ recorded_figures number (recorded size) = number ∷ size ∷ 0 ∷ 0 ∷ 0 ∷ 
 recorded_figures number (not_recorded e) = refusal_figures e
 
 -- counting: the message bytes used, or 257, counted already
-abbrev pub counted_figures : Counted → List ℕ
-counted_figures (Done used) = 0 ∷ used ∷ 0 ∷ 0 ∷ 0 ∷ []
-counted_figures Already = 257 ∷ 0 ∷ 0 ∷ 0 ∷ 0 ∷ []
-counted_figures (Refused e) = refusal_figures e
+abbrev pub counted_figures : Result Counted Error → List ℕ
+counted_figures (Ok (Done used)) = 0 ∷ used ∷ 0 ∷ 0 ∷ 0 ∷ []
+counted_figures (Ok Already) = 257 ∷ 0 ∷ 0 ∷ 0 ∷ 0 ∷ []
+counted_figures (Err e) = refusal_figures e
 
 -- a start: the refusal, or the answer of writing the state's record
 abbrev pub started_figures : Started → List ℕ → List ℕ

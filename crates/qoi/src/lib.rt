@@ -9,12 +9,10 @@ ghost use Rattle.resume.specs.State.{state_of};
 ghost use Rattle.qoi.specs.Hosted.{IsDecode, IsEncode, IsStrict, IsRecord, IsStart, IsRun, IsText, IsCount};
 
 use decode::Decoded;
-use encode::Encoded;
-use header::HeaderRead;
 use pixel::error;
-use pixel::error::{Error, FourFigures, Worded};
-use resume::{Decoder, StartAnswer, StepAnswer, Written};
-use strict::StrictAnswer;
+use pixel::error::{Error, FourFigures};
+use resume::{Decoder, Progress, Stepped};
+use strict::Accepted;
 use totals::{Counted, Marks};
 
 // A refusal's number, with its figures.
@@ -38,8 +36,8 @@ fn answer_record(number: u64, decoder: Decoder, part: &mut [u8], figures: &mut F
     ensures { IsRecord number (state_of decoder) part.old (result ∷ figures.new) part.new }
 {
     match decoder.write_record(part) {
-        Written::Refused(e) => refuse(e, figures),
-        Written::Done { size } => answer(number, size as u64, 0, figures),
+        Err(e) => refuse(e, figures),
+        Ok(size) => answer(number, size as u64, 0, figures),
     }
 }
 
@@ -49,15 +47,13 @@ pub extern "C" fn pivotshade_header(message: &[u8], figures: &mut FourFigures) -
     ensures { result ∷ figures.new ≡ header_figures (header_of message.now) }
 {
     match header::decode_header(message) {
-        HeaderRead::Refused(e) => refuse(e, figures),
-        HeaderRead::Ok(h) => {
-            let channels = h.channels;
-            let colorspace = h.colorspace;
+        Err(e) => refuse(e, figures),
+        Ok(h) => {
             *figures = [
-                h.width as u64,
-                h.height as u64,
-                channels.as_u8() as u64,
-                colorspace.as_u8() as u64,
+                u64::from(h.width),
+                u64::from(h.height),
+                u64::from(h.channels.as_u8()),
+                u64::from(h.colorspace.as_u8()),
             ];
             0
         }
@@ -75,8 +71,8 @@ pub extern "C" fn pivotshade_decode(
     ensures { IsDecode message.now wanted out.old (result ∷ figures.new) out.new }
 {
     match decode::decode(message, wanted, out) {
-        Decoded::Refused(e) => refuse(e, figures),
-        Decoded::Done { size, used } => answer(0, size as u64, used as u64, figures),
+        Err(e) => refuse(e, figures),
+        Ok(Decoded { size, used }) => answer(0, size as u64, used as u64, figures),
     }
 }
 
@@ -94,8 +90,8 @@ pub extern "C" fn pivotshade_encode(
         (result ∷ figures.new) out.new }
 {
     match encode::encode(pixels, width, height, colorspace, out) {
-        Encoded::Refused(e) => refuse(e, figures),
-        Encoded::Done { size } => answer(0, size as u64, 0, figures),
+        Err(e) => refuse(e, figures),
+        Ok(size) => answer(0, size as u64, 0, figures),
     }
 }
 
@@ -105,12 +101,8 @@ pub extern "C" fn pivotshade_strict(message: &[u8], figures: &mut FourFigures) -
     ensures { IsStrict message.now (result ∷ figures.new) }
 {
     match strict::strict(message) {
-        StrictAnswer::Refused(e) => refuse(e, figures),
-        StrictAnswer::Accepted {
-            header: _,
-            chunks,
-            bytes,
-        } => answer(0, chunks as u64, bytes as u64, figures),
+        Err(e) => refuse(e, figures),
+        Ok(Accepted { chunks, bytes, .. }) => answer(0, chunks as u64, bytes as u64, figures),
     }
 }
 
@@ -126,15 +118,10 @@ pub extern "C" fn pivotshade_start(
     ensures { IsStart message.now number wanted «record».old
         (result ∷ figures.new) «record».new }
 {
-    let idle = Decoder::idle();
-    let started = idle.start(message, number, wanted);
-    let taken = started.answer;
-    match taken {
-        StartAnswer::Refused(e) => refuse(e, figures),
-        StartAnswer::Ok => {
-            let decoder = started.decoder;
-            answer_record(0, decoder, record, figures)
-        }
+    let started = Decoder::idle().start(message, number, wanted);
+    match started.answer {
+        Err(e) => refuse(e, figures),
+        Ok(()) => answer_record(0, started.decoder, record, figures),
     }
 }
 
@@ -153,24 +140,18 @@ pub extern "C" fn pivotshade_run(
     ensures { IsRun message.now number «record».now out.old steps
         next.old (result ∷ figures.new) out.new next.new }
 {
-    let idle = Decoder::idle();
-    let started = idle.take_up(number, record);
-    let taken = started.answer;
-    match taken {
-        StartAnswer::Refused(e) => refuse(e, figures),
-        StartAnswer::Ok => {
-            let decoder = started.decoder;
-            let stepped = decoder.run(message, out, steps);
-            let end = stepped.answer;
-            match end {
-                StepAnswer::Refused(e) => refuse(e, figures),
-                StepAnswer::Done { size, used } => answer(0, size as u64, used as u64, figures),
-                StepAnswer::More => {
-                    let reached = stepped.decoder;
-                    answer_record(256, reached, next, figures)
-                }
-            }
-        }
+    let started = Decoder::idle().take_up(number, record);
+    if let Err(e) = started.answer {
+        return refuse(e, figures);
+    }
+    let Stepped {
+        answer: ran,
+        decoder,
+    } = started.decoder.run(message, out, steps);
+    match ran {
+        Err(e) => refuse(e, figures),
+        Ok(Progress::Done { size, used }) => answer(0, size as u64, used as u64, figures),
+        Ok(Progress::More) => answer_record(256, decoder, next, figures),
     }
 }
 
@@ -188,9 +169,9 @@ pub extern "C" fn pivotshade_count(
         (result ∷ figures.new) frame.new totals.new marks.new }
 {
     match totals::count(message, hour, frame, totals, marks) {
-        Counted::Refused(e) => refuse(e, figures),
-        Counted::Already => answer(257, 0, 0, figures),
-        Counted::Done { used } => answer(0, used as u64, 0, figures),
+        Err(e) => refuse(e, figures),
+        Ok(Counted::Already) => answer(257, 0, 0, figures),
+        Ok(Counted::Done { used }) => answer(0, used as u64, 0, figures),
     }
 }
 
@@ -206,7 +187,7 @@ pub extern "C" fn pivotshade_text(
         (result ∷ answered.new) out.new }
 {
     match error::text_of(number, *figures, out) {
-        Worded::Refused(e) => refuse(e, answered),
-        Worded::Done(size) => answer(0, size as u64, 0, answered),
+        Err(e) => refuse(e, answered),
+        Ok(size) => answer(0, size as u64, 0, answered),
     }
 }

@@ -8,16 +8,16 @@ ghost use Rattle.report.specs.Line.{ok_parts, refused_parts, line_of};
 
 use header::Header;
 use pixel::error;
-use pixel::error::Worded;
+use pixel::error::Error;
 use std::io::Stdout;
-use strict::StrictAnswer;
+use strict::Accepted;
 use text::Text;
 
 // A longer input is not checked.
 const LONGEST: usize = 65_536;
 
 // Writes the line of an input at the front of an output; nothing where there is no room for it.
-pub fn line(input: &[u8], out: &mut [u8]) -> Worded
+pub fn line(input: &[u8], out: &mut [u8]) -> Result<usize, Error>
     ensures value { result ≡ worded_in (line_of input.now) (length out.old) }
     ensures out_after { out.new ≡ put_over (line_of input.now) out.old }
 {
@@ -29,14 +29,10 @@ pub fn print_line(stdout: Stdout, input: &[u8]) -> usize
     ensures { result ≡ length (line_of input.now) }
 {
     let mut out = [0u8; 160];
-    match line(input, &mut out) {
-        // It never comes: no line is longer than 160 bytes.
-        Worded::Refused(_) => 0,
-        Worded::Done(size) => {
-            let _ = stdout.write_all(&out[..size]);
-            size
-        }
-    }
+    // It is never refused: no line is longer than 160 bytes.
+    let size = line(input, &mut out).unwrap_or(0);
+    let _ = stdout.write_all(&out[..size]);
+    size
 }
 
 // What is said of an input.
@@ -45,16 +41,17 @@ fn told(input: &[u8]) -> Text
     ensures { text_of result ≡ line_of input.now }
 {
     if LONGEST < input.len() {
-        let text = Text::empty();
-        return text.words(b"too long\n");
+        return Text::empty().words(b"too long\n");
     }
     match strict::strict(input) {
-        StrictAnswer::Refused(e) => refused(e.number()),
-        StrictAnswer::Accepted {
-            header,
-            chunks,
-            bytes,
-        } => ok(header, chunks as u64, bytes as u64),
+        Err(e) => refused(e.number()),
+        Ok(
+            Accepted {
+                header,
+                chunks,
+                bytes,
+            },
+        ) => ok(header, chunks as u64, bytes as u64),
     }
 }
 
@@ -62,16 +59,11 @@ fn told(input: &[u8]) -> Text
 fn ok(header: Header, chunks: u64, bytes: u64) -> Text
     ensures { text_of result ≡ said (ok_parts header chunks bytes) }
 {
-    let channels = header.channels;
-    let colorspace = header.colorspace;
-    let text = Text::empty();
-    let dimensions = text
-        .figure(b"ok ", header.width as u64)
-        .figure(b" ", header.height as u64);
-    let header_told = dimensions
-        .figure(b" ", channels.as_u8() as u64)
-        .figure(b" ", colorspace.as_u8() as u64);
-    header_told
+    Text::empty()
+        .figure(b"ok ", u64::from(header.width))
+        .figure(b" ", u64::from(header.height))
+        .figure(b" ", u64::from(header.channels.as_u8()))
+        .figure(b" ", u64::from(header.colorspace.as_u8()))
         .figure(b" ", chunks)
         .figure(b" ", bytes)
         .words(b"\n")
@@ -81,6 +73,5 @@ fn ok(header: Header, chunks: u64, bytes: u64) -> Text
 fn refused(number: u64) -> Text
     ensures { text_of result ≡ said (refused_parts number) }
 {
-    let text = Text::empty();
-    text.figure(b"refused ", number).words(b"\n")
+    Text::empty().figure(b"refused ", number).words(b"\n")
 }

@@ -8,5 +8,5 @@ use Rattle.report.proofs.refused.Goals as goal
 
 pub returns : goal.returns
 returns c =
-    spoken_whole (refused_parts c.args.number) c.empty-text.result c.words.result (lit≤ tt) c.empty-text.ensures
+    spoken_whole (refused_parts c.args.number) c.empty.result c.words.result (lit≤ tt) c.empty.ensures
     (c.figure.result, c.figure.ensures, (c.words.result, c.words.ensures, refl))

@@ -15,12 +15,12 @@ use Rattle.report.proofs.told.Goals as goal
 checked : (input : List ℕ) → length input ≤ 65536 → ltb 65536 (length input) ≡ false
 checked input few = le-ltb 65536 (length input) few
 
-pub returns-in-Refused : goal.returns-in-Refused
+pub returns-in-Err : goal.returns-in-Err
 unfolding line_parts
-returns-in-Refused c =
-    rw (checked c.args.input.now (omega arith), ← c.strict.ensures, c.in-Refused.is, ← c.number.ensures) c.refused.ensures
+returns-in-Err c =
+    rw (checked c.args.input.now (omega arith), ← c.strict.ensures, c.in-Err.is, ← c.number.ensures) c.refused.ensures
 
-pub returns-in-Accepted : goal.returns-in-Accepted
+pub returns-in-Ok : goal.returns-in-Ok
 unfolding line_parts
-returns-in-Accepted c =
-    rw (checked c.args.input.now (omega arith), ← c.strict.ensures, c.in-Accepted.is) c.ok.ensures
+returns-in-Ok c =
+    rw (checked c.args.input.now (omega arith), ← c.strict.ensures, c.in-Ok.is) c.ok.ensures
