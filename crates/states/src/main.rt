@@ -9,194 +9,125 @@
 // A read or a write that fails ends the program with its error.
 #![tactic(auto)]
 
-ghost use Rattle.std.specs.Prelude.{◌≤◌};
-ghost use Rattle.std.specs.Io.{ReadsAtMost};
-
-use pixel::error::Error;
-use resume::{Decoder, StartAnswer, StepAnswer, Written};
-use std::io;
-use std::io::Read;
+use pixel::error::{Error, FourFigures};
+use resume::{Decoder, Progress};
+use std::io::{ErrorKind, Read};
+use std::{fmt, io};
 
 // The byte that an output is full of before a run.
 const FILL: u8 = 0xee;
 
-fn two(high: u8, low: u8) -> usize
-    ensures { result ≤ 65535 }
-{
-    high as usize * 256 + low as usize
+// 0 and the figures of what was done, or the number and the figures of a refusal.
+#[derive(Clone, Copy)]
+struct Answer {
+    number: u64,
+    figures: FourFigures,
 }
 
-fn wide(byte: u8) -> u64 {
-    byte as u64
-}
-
-fn four(a: u8, b: u8, c: u8, d: u8) -> u64 {
-    ((a as u64 * 256 + b as u64) * 256 + c as u64) * 256 + d as u64
-}
-
-fn eight(high: u64, low: u64) -> u64 {
-    high % 0x1_0000_0000 * 0x1_0000_0000 + low % 0x1_0000_0000
-}
-
-// The state with that many more pixels left.
-fn made_up(decoder: Decoder, more: u64) -> Decoder {
-    let header = decoder.header;
-    let current = decoder.current;
-    let slots = decoder.slots;
-    Decoder {
-        header,
-        wanted: decoder.wanted,
-        at: decoder.at,
-        pixel: decoder.pixel,
-        left: decoder.left.wrapping_add(more as usize),
-        current,
-        slots,
-        number: decoder.number,
+impl From<Result<FourFigures, Error>> for Answer {
+    fn from(answered: Result<FourFigures, Error>) -> Self {
+        match answered {
+            Ok(figures) => Answer { number: 0, figures },
+            Err(e) => Answer {
+                number: e.number(),
+                figures: e.figures(),
+            },
+        }
     }
 }
 
-fn print_number(rt: &impl Print, n: u64) -> io::Result<()> {
-    print!(rt; "{n} ")
-}
-
-fn print_answer(rt: &impl Print, number: u64, a: u64, b: u64, c: u64, d: u64) -> io::Result<()> {
-    print_number(rt, number)?;
-    print_number(rt, a)?;
-    print_number(rt, b)?;
-    print_number(rt, c)?;
-    print_number(rt, d)
-}
-
-fn print_refusal(rt: &impl Print, e: Error) -> io::Result<()> {
-    let figures = e.figures();
-    print_answer(
-        rt,
-        e.number(),
-        figures[0],
-        figures[1],
-        figures[2],
-        figures[3],
-    )
-}
-
-// With more to do: 256, and byte position, pixel position, pixels left and message number of the next state.
-fn print_run(rt: &impl Print, answer: StepAnswer, next: Decoder) -> io::Result<()> {
-    match answer {
-        StepAnswer::More => print_answer(
-            rt,
-            256,
-            next.at as u64,
-            next.pixel as u64,
-            next.left as u64,
-            next.number,
-        ),
-        StepAnswer::Done { size, used } => print_answer(rt, 0, size as u64, used as u64, 0, 0),
-        StepAnswer::Refused(e) => print_refusal(rt, e),
+impl fmt::Display for Answer {
+    fn fmt<W: fmt::Write>(&self, f: &mut fmt::Formatter<W>) -> fmt::Result {
+        let number = self.number;
+        let [a, b, c, d] = self.figures;
+        write!(f, "{number} {a} {b} {c} {d}")
     }
 }
 
-// How many bytes of an output are not as they were.
-fn print_changed(rt: &impl Print, out: &[u8]) -> io::Result<()> {
-    let changed = out.iter().filter(|byte| **byte != FILL).count();
-    print_number(rt, changed as u64)
-}
-
-fn print_written(rt: &impl Print, written: Written) -> io::Result<()> {
-    match written {
-        Written::Done { size } => print_answer(rt, 0, size as u64, 0, 0, 0),
-        Written::Refused(e) => print_refusal(rt, e),
-    }
-}
-
-// A run of a state and the writing of its record.
-fn run(rt: &impl Print, decoder: Decoder, message: &[u8], steps: u64) -> io::Result<()> {
-    let mut out = [FILL; 4096];
-    let ran = decoder.run(message, &mut out, steps);
-    let answer = ran.answer;
-    let next = ran.decoder;
-    print_run(rt, answer, next)?;
-    print_changed(rt, &out)?;
-    let mut record = [0u8; 300];
-    print_written(rt, decoder.write_record(&mut record))?;
-    println!(rt)
-}
-
-// The state of a record with more pixels left, or the record's refusal.
-fn run_record(
-    rt: &impl Print,
-    record: &[u8],
+// An entry of the list, its fields without their padding.
+#[derive(Clone, Copy)]
+struct Entry<'a> {
+    record: &'a [u8],
     more: u64,
     number: u64,
-    message: &[u8],
-    steps: u64,
-) -> io::Result<()> {
-    let started = Decoder::idle().take_up(number, record);
-    let answer = started.answer;
-    let decoder = started.decoder;
-    match answer {
-        StartAnswer::Refused(e) => {
-            print_refusal(rt, e)?;
-            println!(rt)
-        }
-        StartAnswer::Ok => run(rt, made_up(decoder, more), message, steps),
+    steps: u8,
+    message: &'a [u8],
+}
+
+// What a padded field holds after its length. None where that is longer than the field.
+fn unpadded(field: &[u8]) -> Option<&[u8]> {
+    let (length, bytes) = field.split_first_chunk::<2>()?;
+    bytes.get(..usize::from(u16::from_be_bytes(*length)))
+}
+
+impl<'a> Entry<'a> {
+    fn read(bytes: &'a [u8; 1024]) -> Option<Self> {
+        let (record, bytes) = bytes.split_first_chunk::<302>()?;
+        let (more, bytes) = bytes.split_first_chunk::<8>()?;
+        let (number, bytes) = bytes.split_first_chunk::<8>()?;
+        let (steps, message) = bytes.split_first()?;
+        Some(Entry {
+            record: unpadded(record)?,
+            more: u64::from_be_bytes(*more),
+            number: u64::from_be_bytes(*number),
+            steps: *steps,
+            message: unpadded(message)?,
+        })
     }
 }
 
-// What is no entry has no line.
-fn run_entry(rt: &impl Print, entry: &[u8]) -> io::Result<()> {
-    if entry.len() != 1024 {
-        return Ok(());
+// What a run answers. With more to do: 256, and byte position, pixel position, pixels left and message number of the
+// next state.
+fn run(decoder: Decoder, entry: Entry, out: &mut [u8]) -> Answer {
+    let ran = decoder.run(entry.message, out, u64::from(entry.steps));
+    let next = ran.decoder;
+    match ran.answer {
+        Ok(Progress::More) => Answer {
+            number: 256,
+            figures: [
+                next.at as u64,
+                next.pixel as u64,
+                next.left as u64,
+                next.number,
+            ],
+        },
+        Ok(Progress::Done { size, used }) => Answer::from(Ok([size as u64, used as u64, 0, 0])),
+        Err(e) => Answer::from(Err(e)),
     }
-    let record = two(entry[0], entry[1]);
-    let message = two(entry[319], entry[320]);
-    if 300 < record {
-        return Ok(());
-    }
-    if 703 < message {
-        return Ok(());
-    }
-    let record_end = 2 + record;
-    let message_end = 321 + message;
-    let more_high = four(entry[302], entry[303], entry[304], entry[305]);
-    let more_low = four(entry[306], entry[307], entry[308], entry[309]);
-    let number_high = four(entry[310], entry[311], entry[312], entry[313]);
-    let number_low = four(entry[314], entry[315], entry[316], entry[317]);
-    let steps = wide(entry[318]);
-    run_record(
-        rt,
-        &entry[2..record_end],
-        eight(more_high, more_low),
-        eight(number_high, number_low),
-        &entry[321..message_end],
-        steps,
-    )
 }
 
-// Reads until a room is full or the input ends, and answers how many bytes it read.
-fn read_full<R: Read>(input: &mut R, room: &mut [u8]) -> io::Result<usize>
-    ensures { ReadsAtMost result room.new }
-{
-    let mut done = 0;
-    while done < room.len() {
-        let n = input.read(&mut room[done..])?;
-        if n == 0 {
-            break;
-        }
-        done += n;
+// Prints the line of an entry.
+fn print_line(rt: &impl Print, entry: Entry) -> io::Result<()> {
+    let started = Decoder::idle().take_up(entry.number, entry.record);
+    if let Err(e) = started.answer {
+        return println!(rt; "{} ", Answer::from(Err(e)));
     }
-    Ok(done)
+    let decoder = Decoder {
+        left: started.decoder.left.wrapping_add(entry.more as usize),
+        ..started.decoder
+    };
+    let mut out = [FILL; 4096];
+    let ran = run(decoder, entry, &mut out);
+    let changed = out.iter().filter(|byte| **byte != FILL).count();
+    let mut record = [0u8; 300];
+    let written = decoder.write_record(&mut record);
+    let written = Answer::from(written.map(|size| [size as u64, 0, 0, 0]));
+    println!(rt; "{ran} {changed} {written} ")
 }
 
-// A proved loop has to end, and nothing says that a list does: it has at most a million states.
+// A proved loop has to end, and nothing says that a list does: it has at most a million states. What is no entry has no
+// line.
 fn main(rt: HostRuntime) -> io::Result<()> {
     let mut input = rt.reader();
     for _ in 0..1_000_000u32 {
-        let mut entry = [0u8; 1024];
-        let got = read_full(&mut input, &mut entry)?;
-        if got < 1024 {
-            break;
+        let mut bytes = [0u8; 1024];
+        match input.read_exact(&mut bytes) {
+            Err(e) if e.kind() == ErrorKind::UnexpectedEof => break,
+            read => read?,
         }
-        run_entry(&rt, &entry)?;
+        if let Some(entry) = Entry::read(&bytes) {
+            print_line(&rt, entry)?;
+        }
     }
     Ok(())
 }

@@ -2,46 +2,64 @@
 // answered is the two digits, 0 or the number of a refusal, and the four figures.
 use crate::groups::Answer;
 use crate::{groups, hex};
+use pixel::error::FourFigures;
 
-// Where the input's digits start.
-const INPUT: usize = 67;
-
-#[derive(Clone, Copy)]
+// 0 and the figures of what was accepted, or the number and the figures of a refusal.
+#[derive(Clone, Copy, PartialEq, Eq)]
 struct Recorded {
-    good: bool,
-    answer: Answer,
+    number: u64,
+    figures: FourFigures,
 }
 
-fn read(line: &[u8]) -> Recorded {
-    let number = hex::number_at(line, 1, 3);
-    let a = hex::number_at(line, 3, 19);
-    let b = hex::number_at(line, 19, 35);
-    let c = hex::number_at(line, 35, 51);
-    let d = hex::number_at(line, 51, INPUT);
-    Recorded {
-        good: number.good && a.good && b.good && c.good && d.good,
-        answer: Answer {
-            number: number.value,
-            figures: [a.value, b.value, c.value, d.value],
-        },
+impl From<Answer> for Recorded {
+    fn from(answer: Answer) -> Self {
+        match answer {
+            Ok(figures) => Recorded { number: 0, figures },
+            Err(e) => Recorded {
+                number: e.number(),
+                figures: e.figures(),
+            },
+        }
+    }
+}
+
+#[derive(Clone, Copy)]
+struct Case<'a> {
+    letter: u8,
+    recorded: Recorded,
+    input: &'a [u8],
+}
+
+impl<'a> Case<'a> {
+    // The case of a line, its input in a room; none where the line is no case, or the room is too small.
+    fn read(line: &[u8], room: &'a mut [u8]) -> Option<Self> {
+        let (letter, digits) = line.split_first()?;
+        let (number, digits) = digits.split_first_chunk::<2>()?;
+        let (figures, input) = digits.split_first_chunk::<64>()?;
+        let ([a, b, c, d], []) = figures.as_chunks::<16>() else {
+            return None;
+        };
+        Some(Case {
+            letter: *letter,
+            recorded: Recorded {
+                number: hex::number(number)?,
+                figures: [
+                    hex::number(a)?,
+                    hex::number(b)?,
+                    hex::number(c)?,
+                    hex::number(d)?,
+                ],
+            },
+            input: hex::bytes(input, room)?,
+        })
     }
 }
 
 // Whether the port answers the case of a line as the Rust did; never where the line is no case, or its input is
 // longer than the room for it, which holds all that a page can.
 pub fn agrees(line: &[u8]) -> bool {
-    if line.len() < INPUT {
-        return false;
-    }
     let mut room = [0u8; 32768];
-    let n = hex::bytes(&line[INPUT..], &mut room);
-    if room.len() < n {
-        return false;
-    }
-    let recorded = read(line);
-    if !recorded.good {
-        return false;
-    }
-    let answer = recorded.answer;
-    answer.same(groups::asked(line[0], &room[0..n]))
+    Case::read(line, &mut room).is_some_and(|case| {
+        groups::asked(case.letter, case.input).map(Recorded::from) == Some(case.recorded)
+    })
 }

@@ -1,94 +1,63 @@
 // What a case of an encode asks of the port. Its input: four bytes, the width; four, the height; one, the colour
 // space; two, the length of the pixels' bytes, all big-endian; those bytes; and the lent output's bytes as the Rust
 // left them, which were all 0xa5 before.
-use crate::big_endian;
 use crate::groups::Answer;
-use encode::{Encoded, Encoder, EncoderRead};
-use pixel::types::{ColorSpace, ColorSpaceRead};
+use encode::Encoder;
+use pixel::error::Error;
+use pixel::types::ColorSpace;
 
-// The calls that encode a picture.
-#[derive(Clone, Copy)]
-enum Call {
-    Encode,
-    // In sRGB alone.
-    EncodeToBuf,
-    // The steps over an encoder.
-    Encoder,
-}
-
-fn by_encoder(pixels: &[u8], width: u32, height: u32, colorspace: u8, out: &mut [u8]) -> Encoded {
-    match Encoder::new(pixels, width, height) {
-        EncoderRead::Refused(e) => Encoded::Refused(e),
-        EncoderRead::Ok(encoder) => match ColorSpace::try_from(colorspace as u64) {
-            ColorSpaceRead::Refused(e) => Encoded::Refused(e),
-            ColorSpaceRead::Ok(s) => {
-                let encoder = encoder.with_colorspace(s);
-                encoder.encode_to_buf(pixels, out)
-            }
-        },
-    }
-}
-
-fn encoded(
-    call: Call,
+// An encode by the steps over an encoder.
+fn by_encoder(
     pixels: &[u8],
     width: u32,
     height: u32,
     colorspace: u8,
     out: &mut [u8],
-) -> Encoded {
-    match call {
-        Call::Encode => encode::encode(pixels, width, height, colorspace as u64, out),
-        Call::EncodeToBuf => encode::encode_to_buf(out, pixels, width, height),
-        Call::Encoder => by_encoder(pixels, width, height, colorspace, out),
-    }
-}
-
-fn answered(encoded: Encoded) -> Answer {
-    match encoded {
-        Encoded::Refused(e) => Answer::refused(e),
-        Encoded::Done { size } => Answer::accepted(size as u64, 0, 0, 0),
-    }
+) -> Result<usize, Error> {
+    let encoder = Encoder::new(pixels, width, height)?;
+    let colorspace = ColorSpace::try_from(u64::from(colorspace))?;
+    encoder
+        .with_colorspace(colorspace)
+        .encode_to_buf(pixels, out)
 }
 
 // An encode into an output as long as the Rust's, if it leaves there what the Rust left.
-fn lent(call: Call, pixels: &[u8], width: u32, height: u32, colorspace: u8, left: &[u8]) -> Answer {
+fn lent<F: FnOnce(&mut [u8]) -> Result<usize, Error>>(left: &[u8], encode: F) -> Option<Answer>
+    requires { F.IsAlwaysCallable encode }
+{
     let mut room = [0xa5u8; 2048];
-    let n = left.len();
-    if room.len() < n {
-        return Answer::none();
+    let out = room.get_mut(..left.len())?;
+    let encoded = encode(out);
+    if *out != *left {
+        return None;
     }
-    let out = &mut room[0..n];
-    let encoded = encoded(call, pixels, width, height, colorspace, out);
-    if *out == *left {
-        answered(encoded)
-    } else {
-        Answer::none()
-    }
+    Some(encoded.map(|size| [size as u64, 0, 0, 0]))
 }
 
-// The answer in which every call agrees that can take the colour space, each with a room of its own.
-fn of_each(pixels: &[u8], width: u32, height: u32, colorspace: u8, left: &[u8]) -> Answer {
-    let encode = lent(Call::Encode, pixels, width, height, colorspace, left);
-    let answer = encode.if_same(lent(Call::Encoder, pixels, width, height, colorspace, left));
-    if colorspace == 0 {
-        answer.if_same(lent(Call::EncodeToBuf, pixels, width, height, colorspace, left))
-    } else {
-        answer
+// The port's answer to a case: that in which every call agrees that can take the colour space, each with a room of its
+// own.
+pub fn asked(input: &[u8]) -> Option<Answer> {
+    let (figures, bytes) = input.split_first_chunk::<11>()?;
+    let [w0, w1, w2, w3, h0, h1, h2, h3, colorspace, l0, l1] = *figures;
+    let width = u32::from_be_bytes([w0, w1, w2, w3]);
+    let height = u32::from_be_bytes([h0, h1, h2, h3]);
+    let length = u16::from_be_bytes([l0, l1]);
+    let (pixels, left) = bytes.split_at_checked(usize::from(length))?;
+    let answer = lent(left, |out| {
+        encode::encode(pixels, width, height, u64::from(colorspace), out)
+    })?;
+    let by_steps = lent(left, |out| {
+        by_encoder(pixels, width, height, colorspace, out)
+    });
+    if by_steps != Some(answer) {
+        return None;
     }
-}
-
-// The port's answer to a case.
-pub fn asked(input: &[u8]) -> Answer {
-    if input.len() < 11 {
-        return Answer::none();
+    if colorspace != 0 {
+        return Some(answer);
     }
-    let width = big_endian::four(input[0], input[1], input[2], input[3]);
-    let height = big_endian::four(input[4], input[5], input[6], input[7]);
-    let length = big_endian::two(input[9], input[10]);
-    if input.len() - 11 < length {
-        return Answer::none();
-    }
-    let end = 11 + length;
-    of_each(&input[11..end], width, height, input[8], &input[end..])
+    // In sRGB alone.
+    let to_buf = lent(left, |out| {
+        encode::encode_to_buf(out, pixels, width, height)
+    });
+    to_buf.filter(|other| *other == answer)
 }
