@@ -2,28 +2,36 @@
 // length, three bytes, the high one first. A read that fails counts as the input's end.
 #![tactic(auto)]
 
-use std::io;
+ghost use Rattle.std.specs.Prelude.{◌≤◌, length};
+
 use std::io::{Read, Stdin, Stdout};
 
-// Reads until the room is full, the input ends or a read fails, and answers the bytes read.
-fn read_full(stdin: Stdin, room: &mut [u8]) -> &[u8] {
-    let size = room.len();
-    let mut left = &mut room[..];
-    // A copy that fails has no count, but what it leaves of the room tells how much came.
-    let _ = io::copy(&mut stdin.take(size as u64), &mut left);
-    let end = size.saturating_sub(left.len());
-    &room[..end]
+// Reads until the buffer is full, the input ends or a read fails, and answers how many bytes it read.
+fn read_full(mut stdin: Stdin, buf: &mut [u8]) -> usize
+    ensures { result ≤ length buf.new }
+{
+    let mut done = 0;
+    while done < buf.len() {
+        match stdin.read(&mut buf[done..]) {
+            Ok(0) | Err(_) => break,
+            Ok(n) => done += n,
+        }
+    }
+    done
 }
 
 // Prints the line of the next message. None at the end of the list, and for a message of more than 65,537 bytes.
-fn next_line(mut stdin: Stdin, stdout: Stdout) -> Option<()> {
+fn next_line(stdin: Stdin, stdout: Stdout) -> Option<()> {
     let mut length = [0u8; 3];
-    stdin.read_exact(&mut length).ok()?;
+    if read_full(stdin, &mut length) < length.len() {
+        return None;
+    }
     let [high, middle, low] = length;
     let length = u32::from_be_bytes([0, high, middle, low]) as usize;
     let mut input = [0u8; 65537];
     let room = input.get_mut(..length)?;
-    report::print_line(stdout, read_full(stdin, room));
+    let size = read_full(stdin, room);
+    report::print_line(stdout, &room[..size]);
     Some(())
 }
 

@@ -2,16 +2,27 @@
 // `too long`. A read that fails counts as the input's end.
 #![tactic(auto)]
 
-use std::io;
-use std::io::Read;
+ghost use Rattle.std.specs.Prelude.{◌≤◌, length};
+
+use std::io::{Read, Stdin};
+
+// Reads until the buffer is full, the input ends or a read fails, and answers how many bytes it read.
+fn read_full(mut stdin: Stdin, buf: &mut [u8]) -> usize
+    ensures { result ≤ length buf.new }
+{
+    let mut done = 0;
+    while done < buf.len() {
+        match stdin.read(&mut buf[done..]) {
+            Ok(0) | Err(_) => break,
+            Ok(n) => done += n,
+        }
+    }
+    done
+}
 
 fn main(rt: HostRuntime) {
     // One byte more than is checked tells an input that is too long.
     let mut input = [0u8; 65537];
-    let mut room = input.as_mut_slice();
-    // A copy that fails has no count, but what it leaves of the room tells how much came.
-    let _ = io::copy(&mut rt.stdin().take(65537), &mut room);
-    let left = room.len();
-    let n = input.len().saturating_sub(left);
+    let n = read_full(rt.stdin(), &mut input);
     report::print_line(rt.stdout(), &input[..n]);
 }

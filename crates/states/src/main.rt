@@ -9,10 +9,12 @@
 // A read or a write that fails ends the program with its error.
 #![tactic(auto)]
 
+ghost use Rattle.std.specs.Io.{ReadsAtMost};
+
 use pixel::error::{Error, FourFigures};
 use resume::{Decoder, Progress};
-use std::io::{ErrorKind, Read};
-use std::{fmt, io};
+use std::io;
+use std::io::Read;
 
 // The byte that an output is full of before a run.
 const FILL: u8 = 0xee;
@@ -36,11 +38,14 @@ impl From<Result<FourFigures, Error>> for Answer {
     }
 }
 
-impl fmt::Display for Answer {
-    fn fmt<W: fmt::Write>(&self, f: &mut fmt::Formatter<W>) -> fmt::Result {
-        let number = self.number;
+impl Answer {
+    // Prints the five numbers, each by a write of its own.
+    fn print(self, rt: &impl Print) -> io::Result<()> {
         let [a, b, c, d] = self.figures;
-        write!(f, "{number} {a} {b} {c} {d}")
+        for number in [self.number, a, b, c, d] {
+            print!(rt; "{number} ")?;
+        }
+        Ok(())
     }
 }
 
@@ -100,19 +105,36 @@ fn run(decoder: Decoder, entry: Entry, out: &mut [u8]) -> Answer {
 fn print_line(rt: &impl Print, entry: Entry) -> io::Result<()> {
     let started = Decoder::idle().take_up(entry.number, entry.record);
     if let Err(e) = started.answer {
-        return println!(rt; "{} ", Answer::from(Err(e)));
+        Answer::from(Err(e)).print(rt)?;
+        return println!(rt);
     }
     let decoder = Decoder {
         left: started.decoder.left.wrapping_add(entry.more as usize),
         ..started.decoder
     };
     let mut out = [FILL; 4096];
-    let ran = run(decoder, entry, &mut out);
+    run(decoder, entry, &mut out).print(rt)?;
     let changed = out.iter().filter(|byte| **byte != FILL).count();
+    print!(rt; "{changed} ")?;
     let mut record = [0u8; 300];
     let written = decoder.write_record(&mut record);
-    let written = Answer::from(written.map(|size| [size as u64, 0, 0, 0]));
-    println!(rt; "{ran} {changed} {written} ")
+    Answer::from(written.map(|size| [size as u64, 0, 0, 0])).print(rt)?;
+    println!(rt)
+}
+
+// Reads until the room is full or the input ends, and answers how many bytes it read.
+fn read_full<R: Read>(input: &mut R, room: &mut [u8]) -> io::Result<usize>
+    ensures { ReadsAtMost result room.new }
+{
+    let mut done = 0;
+    while done < room.len() {
+        let n = input.read(&mut room[done..])?;
+        if n == 0 {
+            break;
+        }
+        done += n;
+    }
+    Ok(done)
 }
 
 // A proved loop has to end, and nothing says that a list does: it has at most a million states. What is no entry has no
@@ -121,9 +143,8 @@ fn main(rt: HostRuntime) -> io::Result<()> {
     let mut input = rt.reader();
     for _ in 0..1_000_000u32 {
         let mut bytes = [0u8; 1024];
-        match input.read_exact(&mut bytes) {
-            Err(e) if e.kind() == ErrorKind::UnexpectedEof => break,
-            read => read?,
+        if read_full(&mut input, &mut bytes)? < bytes.len() {
+            break;
         }
         if let Some(entry) = Entry::read(&bytes) {
             print_line(&rt, entry)?;

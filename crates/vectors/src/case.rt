@@ -4,6 +4,9 @@ use crate::groups::Answer;
 use crate::{groups, hex};
 use pixel::error::FourFigures;
 
+// Where the input's digits start.
+const INPUT: usize = 67;
+
 // 0 and the figures of what was accepted, or the number and the figures of a refusal.
 #[derive(Clone, Copy, PartialEq, Eq)]
 struct Recorded {
@@ -58,6 +61,10 @@ impl<'a> Case<'a> {
 // Whether the port answers the case of a line as the Rust did; never where the line is no case, or its input is
 // longer than the room for it, which holds all that a page can.
 pub fn agrees(line: &[u8]) -> bool {
+    // Before the room is made, which takes longer than all else that a short line needs.
+    if line.len() < INPUT {
+        return false;
+    }
     let mut room = [0u8; 32768];
     Case::read(line, &mut room).is_some_and(|case| {
         groups::asked(case.letter, case.input).map(Recorded::from) == Some(case.recorded)

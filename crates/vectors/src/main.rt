@@ -6,6 +6,8 @@
 // A read or a write that fails ends the program with its error.
 #![tactic(auto)]
 
+ghost use Rattle.std.specs.Io.{ReadsAtMost};
+
 use std::io;
 use std::io::Read;
 use tally::Tally;
@@ -19,10 +21,19 @@ mod tally;
 
 const PAGE: usize = 65536;
 
-// Reads until the page is full or the input ends, and answers the bytes read.
-fn read_full<'a, R: Read>(input: &mut R, page: &'a mut [u8; PAGE]) -> io::Result<&'a [u8]> {
-    let read = io::copy(&mut input.take(PAGE as u64), &mut page.as_mut_slice())?;
-    Ok(&page[..PAGE.min(read as usize)])
+// Reads until the room is full or the input ends, and answers how many bytes it read.
+fn read_full<R: Read>(input: &mut R, room: &mut [u8]) -> io::Result<usize>
+    ensures { ReadsAtMost result room.new }
+{
+    let mut done = 0;
+    while done < room.len() {
+        let n = input.read(&mut room[done..])?;
+        if n == 0 {
+            break;
+        }
+        done += n;
+    }
+    Ok(done)
 }
 
 // A proved loop has to end, and nothing says that a list does: it is read for a bounded number of pages.
@@ -31,7 +42,8 @@ fn main(rt: HostRuntime) -> io::Result<()> {
     let mut tally = Tally::new();
     for _ in 0..0x1_0000u32 {
         let mut room = [0u8; PAGE];
-        let page = read_full(&mut input, &mut room)?;
+        let size = read_full(&mut input, &mut room)?;
+        let page = &room[..size];
         for line in page.split(|byte| *byte == b'\n') {
             if let Some(letter) = line.first() {
                 tally.add(*letter, case::agrees(line));

@@ -1,0 +1,9 @@
+-- Each read but the last brings a byte, and none more than there is room for.
+use Rattle.std.proofs.Common.{◌-◌, ◌≤◌, length}
+use Rattle.states.proofs.read_full.Given as goal
+
+abbrev pub invariant-loop-done : goal.invariant-loop-done
+invariant-loop-done g l = l.done ≤ length l.room
+
+abbrev pub decreases-loop-done : goal.decreases-loop-done
+decreases-loop-done g l = length l.room - l.done
