@@ -1,6 +1,6 @@
 -- Header, chunks and marker put one after another are the stream.
 -- Assumes nothing.
-use mathlib.Core.Path.{◌≡◌, refl, sym, ap}
+use mathlib.Core.Path.{◌≡◌, refl, sym, ◌∙◌, ap}
 use mathlib.Core.List.{List, [], ◌++◌, append-nil}
 use Prim.Native.Nat.{ℕ, ◌+◌, ◌≤◌}
 use native.Mathlib.Omega.{arith}
@@ -28,8 +28,11 @@ module _ (header : Header) (pixels out : List ℕ) (f : Framed header pixels out
       reworded (ap (λ (l : List ℕ). l ++ (chunk_bytes_of ++ marker)) (sym is))
       (record { long = refl; room = omega (arith, f.room); ends = refl; makes = refl })
 
+  pub fourteen_long : length fourteen ≡ 14
+  fourteen_long = ap length is ∙ header_length header
+
   pub header_fits : 14 ≤ length out
-  header_fits = omega (arith, first_fits fourteen _ header_pending, ap length is, header_length header)
+  header_fits = omega (arith, first_fits fourteen _ header_pending, fourteen_long)
 
   module _ {start : ℕ} {out₁ : List ℕ} (begun : Puts 0 fourteen out start out₁) where
     chunks_pending : Left start (chunk_bytes_of ++ marker) out₁

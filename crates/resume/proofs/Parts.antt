@@ -3,11 +3,12 @@
 use Prim.Native.Nat.{ℕ, ◌+◌, ◌≤◌}
 use Rattle.std.specs.Prelude.{Ok}
 use mathlib.Core.Path.{◌≡◌, refl, ◌∙◌}
-use mathlib.Core.List.{List, ◌++◌}
+use mathlib.Core.List.{List, ◌++◌, append_assoc}
 use native.Mathlib.Omega.{arith}
 use lib.ListN.{length, drop, length-append}
 use borrow.Author.Tests.{le-leb}
 use Rattle.number.specs.Seven.{seven_bits, writing_number, written_number}
+use Rattle.header.specs.Header.{header_bytes}
 use Rattle.header.proofs.Laws.{header_length}
 use Rattle.rules.specs.Bytes.{pasted, Puts}
 use Rattle.rules.specs.Step.{State}
@@ -34,6 +35,20 @@ pub puts_next :
     → at + length x + length y ≤ length out → Puts at (x ++ y) out end out''
 puts_next out out' out'' at next end x y first second fits =
     (simp length-append (omega (arith, first.0, second.0)), second.1 ∙ put_next out out' at next x y first.1 first.0 fits)
+
+module _ (s : State) where
+  -- the bytes of the three numbers
+  abbrev pub numbers_of : List ℕ
+  numbers_of = seven_bits s.wanted ++ (seven_bits s.place.at ++ seven_bits s.place.pixel)
+
+  -- and those of the pixels
+  abbrev pub pixels_of : List ℕ
+  pixels_of = s.place.current.rgba ++ pixels_bytes s.place.slots
+
+  -- header, numbers, pixels and the message's number are the record
+  pub record_joined : header_bytes s.header ++ (numbers_of ++ (pixels_of ++ seven_bits s.number)) ≡ record_bytes s
+  unfolding record_bytes
+  record_joined = simp append_assoc
 
 -- the record is as long as its parts
 pub record_parts :

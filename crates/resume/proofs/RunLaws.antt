@@ -30,9 +30,10 @@ use Rattle.rules.proofs.PlaceLaws.{Shaped, shaped_next, pixel_reached, stays_ins
 use Rattle.rules.proofs.ReadingLaws.{Moved, moved, moved_last, advances, stays_within}
 use Rattle.rules.proofs.RecordLaws.{formed, adds_up, wanted_few}
 use Rattle.rules.proofs.StepLaws.{next_state, bytes_by, needed, well_next, run_enough}
-use Rattle.std.specs.Prelude.{Ok, Err}
+use Rattle.std.specs.Prelude.{Result, Ok, Err}
 use Rattle.resume.specs.Asked.{Ready, size_for, walk_answer}
 use Rattle.pixel.specs.declared.error.Error.{Error}
+use Rattle.resume.specs.declared.Progress.{Progress}
 use Rattle.resume.specs.Run.{ran_by, end_answer}
 use Rattle.walk.specs.Walking.{Walk, walking, standing, walk_on, fits, walking_into}
 
@@ -63,6 +64,14 @@ ran_walk header number wanted m w =
 -- a well-formed state's pixel is not past the picture
 pub well_within : (s : State) → T (well_formed s) → s.place.pixel ≤ pixel_count s.header
 well_within s well = leb→le s.place.pixel (pixel_count s.header) (formed s well).pixel_passes_lem
+
+-- where steps are left, the marker test was one
+pub stood_end :
+    (header : Header) (wanted : ℕ) (m : List ℕ) (n : ℕ) (s : State) (out : List ℕ) → (n ≡ 0 → ⊥)
+    → stood header wanted m n s out ≡ ended (closing (size_wanted header wanted) m s.place.at) s out
+unfolding stood
+stood_end header wanted m zero s out some = absurd (some refl)
+stood_end header wanted m (suc n) s out some = refl
 
 -- an end as an answer is that end
 pub end_ran : (a : Answer) (s : State) (out : List ℕ) → ran_by (end_answer a) s out ≡ ended a s out
@@ -398,3 +407,21 @@ module _ (header : Header) (number wanted : ℕ) (m out : List ℕ) (from : ℕ)
       go true spare = refl
       go false zero = refl
       go false (suc n) = end_ran (closing (size_wanted header wanted) m w.place.at) s whole
+
+  -- a chunk is cut short
+  pub answers_cut : w.cut ≡ true → ended (refused ended_early) (state_left header number wanted w.place left) left_out ≡ r
+  answers_cut short = rw (back, is-left) (sym (rw short at ran))
+
+  -- no step is left
+  pub answers_more : w.cut ≡ false → w.spare ≡ 0 → going (state_left header number wanted w.place left) left_out ≡ r
+  unfolding stood
+  answers_more whole none = rw (back, is-left) (sym (rw (whole, none) at ran))
+
+  -- the marker test
+  pub answers_end :
+      w.cut ≡ false → (w.spare ≡ 0 → ⊥) → (size : ℕ) → size ≡ size_wanted header wanted
+      → (a : Result Progress Error) → a ≡ end_answer (closing size m w.place.at) → ran_by a (state_left header number wanted w.place left) left_out ≡ r
+  answers_end whole some size counted a is =
+      rw (back, is-left, is, counted)
+      (end_ran (closing (size_wanted header wanted) m w.place.at) (state_at header number wanted w.place) (take from out ++ w.out)
+      ∙ sym (rw whole at ran ∙ stood_end header wanted m w.spare (state_at header number wanted w.place) (take from out ++ w.out) some))

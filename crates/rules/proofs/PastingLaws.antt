@@ -8,7 +8,7 @@ use native.Mathlib.Nat.{add_assoc, add-zero, suc-mul, zero-mul}
 use native.Mathlib.Numerals.{towards_suc}
 use native.Mathlib.Omega.{arith}
 use lib.ListN.{length, take, drop, set, length-append, length-take, length-drop, take-append-drop}
-use lib.Seq.{sets, sets-eq, length-take-le, take_all, take_at, drop_at, drop-drop, drop-length}
+use lib.Seq.{sets, sets-eq, length-take-le, take_all, take_at, drop_at, drop-drop, drop-length, take-length}
 use borrow.Rule.Slice.PartMut.{put_mid, Post-is}
 use Rattle.rules.specs.Bytes.{pasted, repeated}
 
@@ -74,6 +74,13 @@ pub put_back :
     → put_mid at (length out - at) out (bytes ++ drop (length bytes) (take (length out - at) (drop at out))) ≡ pasted at bytes out
 put_back out at bytes within =
     rw (Post-is at (length out) out within, whole_tail out at, drop-drop (length bytes) at out, drop-length out, append-nil)
+
+-- the same where the bytes were copied
+pub copied_back :
+    (out : List ℕ) (at : ℕ) (bytes : List ℕ) → at ≤ length out
+    → (part : List ℕ) → part ≡ take (length bytes) bytes ++ drop (length bytes) (take (length out - at) (drop at out))
+    → put_mid at (length out - at) out part ≡ pasted at bytes out
+copied_back out at bytes within part is = rw (is, take-length bytes) (put_back out at bytes within)
 
 -- nothing put
 pub pasted_none : (out : List ℕ) (at : ℕ) → pasted at [] out ≡ out

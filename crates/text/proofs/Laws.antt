@@ -12,7 +12,7 @@ use Rattle.std.proofs.Math.Nat.{min_comm}
 use Rattle.std.proofs.lemmas.List.{take_min}
 use lib.Dec.{ltb}
 use lib.ListN.{length, take, drop, length-take, length-drop, length-append}
-use lib.Seq.{take_all, take-append-add}
+use lib.Seq.{take_all, take-length, take-append-add}
 use Rattle.io.specs.Digits.{hex_digit_ascii, last_digits, IsDigitCount}
 use Rattle.text.specs.declared.Text.{Text}
 use Rattle.text.specs.Text.{Part, say, figure, ascii, decimal, decimal_in, part_bytes, said_after, said, clipped, text_of, put_over}
@@ -31,6 +31,12 @@ as_long len bytes = rw (length-take, take_min)
 pub put_room : (words out : List ℕ) → length words ≤ length out → put_over words out ≡ words ++ drop (length words) out
 unfolding put_over
 put_room words out fits = rw (le-ltb (length out) (length words) fits)
+
+-- a copy to the front of an output that has room
+pub placed :
+    (words out : List ℕ) → length words ≤ length out
+    → take (length words) words ++ drop (length words) out ≡ put_over words out
+placed words out fits = rw (take-length words, put_room words out fits)
 
 -- the bytes added are those for which there is room
 pub added :

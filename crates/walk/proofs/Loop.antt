@@ -41,6 +41,12 @@ pub four_long : (q : ℕ) → length (unpacked q).rgba ≡ 4
 unfolding unpacked
 four_long q = refl
 
+pub three_bytes_lem : (q : ℕ) → bytes_in 3 (unpacked q) ≡ take 3 (unpacked q).rgba
+three_bytes_lem q = refl
+
+pub four_bytes_lem : (q : ℕ) → bytes_in 4 (unpacked q) ≡ take 4 (unpacked q).rgba
+four_bytes_lem q = refl
+
 -- and of them as many are written as there are channels wanted
 pub bytes_long : {channels : ℕ} → channels ≤ 4 → (q : ℕ) → length (bytes_in channels (unpacked q)) ≡ channels
 bytes_long {channels} few q = length-take-le channels (unpacked q).rgba (rw (four_long q) few)
