@@ -120,8 +120,7 @@ impl Header {
     pub fn n_bytes(self) -> usize
         ensures { result ≡ pixel_bytes self }
     {
-        self.n_pixels()
-            .saturating_mul(self.channels.as_u8() as usize)
+        saturating_mul(self.n_pixels(), self.channels.as_u8() as usize)
     }
 
     // The most that the encoded picture takes, saturating.
@@ -156,9 +155,9 @@ pub fn decode_header(message: &[u8]) -> Result<Header, Error>
 pub fn encode_max_len(width: u32, height: u32, channels: u8) -> usize
     ensures { result ≡ encoded_room width height channels }
 {
-    product(width, height)
-        .saturating_mul(channels as usize + 1)
-        .saturating_add(QOI_HEADER_SIZE + QOI_PADDING_SIZE)
+    saturating_mul(product(width, height), channels as usize + 1).saturating_add(
+        QOI_HEADER_SIZE + QOI_PADDING_SIZE,
+    )
 }
 
 // Width times height, which always fits.

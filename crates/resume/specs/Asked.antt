@@ -6,10 +6,17 @@ use Rattle.pixel.specs.declared.error.Error.{Error}
 use Rattle.pixel.specs.declared.error.Error.TheVariants.{UnexpectedBufferEnd, OutputBufferTooSmall}
 use Rattle.number.specs.declared.Number.{Number}
 use Rattle.rules.specs.Reading.{Answer, size_wanted}
-use Rattle.rules.specs.Step.{State, well_formed}
+use Rattle.rules.specs.Step.{State, well_formed, Started, started, not_started}
+use Rattle.resume.specs.declared.Decoder.{Decoder}
 use Rattle.resume.specs.declared.Progress.{Progress}
 use Rattle.resume.specs.declared.Progress.TheVariants.{More}
 use Rattle.resume.specs.Run.{end_answer}
+use Rattle.resume.specs.State.{state_of}
+
+-- the start with a decoder that is accepted, or its refusal
+abbrev pub started_if : Result (Unit {0}) Error → Decoder → Started
+started_if (Ok passed) decoder = started (state_of decoder)
+started_if (Err e) decoder = not_started e
 
 -- the number of an answer
 abbrev pub value_of : Result Number Error → Result ℕ Error

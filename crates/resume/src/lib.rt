@@ -85,6 +85,6 @@ impl Decoder {
     pub fn required_buf_len(self) -> usize
         ensures { result ≡ saturated (size_wanted self.header self.wanted) }
     {
-        self.header.n_pixels().saturating_mul(self.wanted as usize)
+        header::saturating_mul(self.header.n_pixels(), self.wanted as usize)
     }
 }

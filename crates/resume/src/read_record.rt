@@ -3,6 +3,7 @@ ghost use Rattle.std.specs.Prelude.{◌≡◌, ◌≤◌, length};
 ghost use Rattle.pixel.specs.Bytes.{pixel_from, pixels_from};
 ghost use Rattle.rules.specs.Record.{read_record as read_record_of, accept_state, fault_offset};
 ghost use Rattle.resume.specs.State.{state_of, started_of, Answers};
+ghost use Rattle.resume.specs.Asked.{started_if};
 
 use crate::reader::Reader;
 use crate::{Decoder, Slots, Started};
@@ -22,8 +23,8 @@ impl Decoder {
 
     // The faults of state, then bytes after the number, which ends at `end` in a record of this size; last of all, the
     // number of another message.
-    fn accept(self, expected: u64, end: usize, size: usize) -> Result<Self, Error>
-        ensures { started_of result ≡ accept_state expected (state_of self) end size }
+    fn accept(&self, expected: u64, end: usize, size: usize) -> Result<(), Error>
+        ensures { started_if result self.now ≡ accept_state expected (state_of self.now) end size }
     {
         if !self.is_well_formed() {
             return Err(Error::BadState {
@@ -38,14 +39,14 @@ impl Decoder {
                 number: self.number,
             });
         }
-        Ok(self)
+        Ok(())
     }
 
     // Where the record has the first field with a fault of state: byte position, pixel position, or else the current
     // pixel.
     #[tactic(auto, using(number::proofs::Laws::length_at_most_ten))]
-    fn fault_offset(self) -> usize
-        ensures { result ≡ fault_offset (state_of self) }
+    fn fault_offset(&self) -> usize
+        ensures { result ≡ fault_offset (state_of self.now) }
     {
         let at_offset = QOI_HEADER_SIZE + number::len(self.wanted);
         if self.at < QOI_HEADER_SIZE {
@@ -84,7 +85,8 @@ fn read_record(expected: u64, bytes: &[u8]) -> Result<Decoder, Error>
         slots: slots_of(slots),
         number,
     };
-    decoder.accept(expected, record.at, bytes.len())
+    decoder.accept(expected, record.at, bytes.len())?;
+    Ok(decoder)
 }
 
 // 64 pixels of four bytes each.

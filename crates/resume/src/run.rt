@@ -40,8 +40,8 @@ impl Decoder {
     }
 
     // The bytes of the whole picture, where state, message and output are such that a run may go on.
-    fn picture_size(self, message: usize, room: usize) -> Result<usize, Error>
-        ensures { result ≡ size_for (state_of self) message room }
+    fn picture_size(&self, message: usize, room: usize) -> Result<usize, Error>
+        ensures { result ≡ size_for (state_of self.now) message room }
     {
         if !self.is_well_formed() {
             return Err(Error::BadState { at: 0 });
@@ -86,7 +86,7 @@ impl Decoder {
             },
             left,
             &mut out[from..],
-            steps.min(left + 1),
+            walk::least(steps, left + 1),
         );
         let Place {
             at,

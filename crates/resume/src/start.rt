@@ -29,9 +29,15 @@ impl Decoder {
     pub(crate) fn or_started(self, started: Result<Decoder, Error>) -> Started
         ensures { Answers (started_of started) self result }
     {
-        Started {
-            answer: started.map(|_| ()),
-            decoder: started.unwrap_or(self),
+        match started {
+            Ok(decoder) => Started {
+                answer: Ok(()),
+                decoder,
+            },
+            Err(e) => Started {
+                answer: Err(e),
+                decoder: self,
+            },
         }
     }
 }

@@ -8,8 +8,8 @@ use pixel::consts::QOI_HEADER_SIZE;
 
 impl Decoder {
     // Whether the state is well formed.
-    pub(crate) fn is_well_formed(self) -> bool
-        ensures { result ≡ well_formed (state_of self) }
+    pub(crate) fn is_well_formed(&self) -> bool
+        ensures { result ≡ well_formed (state_of self.now) }
     {
         let pixels = self.header.n_pixels();
         self.header.dimensions_fit()

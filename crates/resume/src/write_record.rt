@@ -52,7 +52,7 @@ impl Decoder {
         record.number(self.at as u64);
         record.number(self.pixel as u64);
         record.bytes(&self.current.rgba);
-        record.pixels(&self.slots);
+        record.pixels(self.slots);
         record.number(self.number);
     }
 }

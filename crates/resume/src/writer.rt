@@ -4,7 +4,7 @@ ghost use Rattle.number.specs.Seven.{seven_bits};
 ghost use Rattle.rules.specs.Bytes.{Puts};
 ghost use Rattle.rules.specs.Record.{pixels_bytes};
 
-use pixel::Pixel;
+use crate::Slots;
 
 // An output, and where the next field goes.
 #[derive(Drop)]
@@ -15,15 +15,13 @@ pub struct Writer<'a> {
 
 impl Writer<'_> {
     // Four bytes each.
-    pub fn pixels(&mut self, pixels: &[Pixel])
-        requires { self.old.at + length (pixels_bytes pixels.now) ≤ length self.old.out.now }
+    pub fn pixels(&mut self, pixels: Slots)
+        requires { self.old.at + length (pixels_bytes pixels) ≤ length self.old.out.now }
         ensures same { self.new.out.ghost_name ≡ self.old.out.ghost_name }
         ensures long { length self.new.out.now ≡ length self.old.out.now }
-        ensures written { Puts self.old.at (pixels_bytes pixels.now) self.old.out.now self.new.at self.new.out.now }
+        ensures written { Puts self.old.at (pixels_bytes pixels) self.old.out.now self.new.at self.new.out.now }
     {
-        for pixel in pixels {
-            self.bytes(&pixel.rgba);
-        }
+        self.at = put_pixels(self.out, self.at, pixels);
     }
 
     pub fn number(&mut self, value: u64)
@@ -41,8 +39,29 @@ impl Writer<'_> {
         ensures long { length self.new.out.now ≡ length self.old.out.now }
         ensures written { Puts self.old.at bytes.now self.old.out.now self.new.at self.new.out.now }
     {
-        let end = self.at + bytes.len();
-        self.out[self.at..end].copy_from_slice(bytes);
-        self.at = end;
+        self.at = put(self.out, self.at, bytes);
     }
+}
+
+// Writes pixels at a place, and answers where they end. They are handed over by value: so LLVM sees that the output is
+// no part of them, and copies them at once.
+fn put_pixels(out: &mut [u8], start: usize, pixels: Slots) -> usize
+    requires { start + length (pixels_bytes pixels) ≤ length out.old }
+    ensures { Puts start (pixels_bytes pixels) out.old result out.new }
+{
+    let mut at = start;
+    for pixel in &pixels {
+        at = put(out, at, &pixel.rgba);
+    }
+    at
+}
+
+// Writes bytes at a place, and answers where they end.
+fn put(out: &mut [u8], at: usize, bytes: &[u8]) -> usize
+    requires { at + length bytes.now ≤ length out.old }
+    ensures { Puts at bytes.now out.old result out.new }
+{
+    let end = at + bytes.len();
+    out[at..end].copy_from_slice(bytes);
+    end
 }

@@ -104,14 +104,14 @@ overflow_add-left c = record { fits = omega (arith, small c.requires) }
 
 pub answer-requires : goal.answer-requires
 answer-requires c =
-    (went c.well_formed.0 c.requires (sym c.try_from.ensures ∙ c.unwrap.ensures) c.min.ensures c.walk-walked.ensures).at_within
+    (went c.well_formed.0 c.requires (sym c.try_from.ensures ∙ c.unwrap.ensures) c.least.ensures c.walk-walked.ensures).at_within
 
 pub overflow_sub-result : goal.overflow_sub-result
 overflow_sub-result c =
-    let w = went c.well_formed.0 c.requires (sym c.try_from.ensures ∙ c.unwrap.ensures) c.min.ensures c.walk-walked.ensures in
+    let w = went c.well_formed.0 c.requires (sym c.try_from.ensures ∙ c.unwrap.ensures) c.least.ensures c.walk-walked.ensures in
     omega (arith, w.pixel_within)
 
 pub returns : goal.returns
 returns c =
-    let w = went c.well_formed.0 c.requires (sym c.try_from.ensures ∙ c.unwrap.ensures) c.min.ensures c.walk-walked.ensures in
+    let w = went c.well_formed.0 c.requires (sym c.try_from.ensures ∙ c.unwrap.ensures) c.least.ensures c.walk-walked.ensures in
     w.answered _ _ (ap (λ (n : ℕ). n - c.walk-walked.result.place.pixel) c.n_pixels.ensures) c.answer.ensures

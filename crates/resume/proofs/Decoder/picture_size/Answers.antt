@@ -6,10 +6,10 @@ use Rattle.resume.proofs.RunLaws.{exactly}
 use Rattle.resume.proofs.Decoder.picture_size.Goals as goal
 
 pub returns-then-room-required : goal.returns-then-room-required
-returns-then-room-required c = let size = exactly (state_of c.args.self) cc in search rules
+returns-then-room-required c = let size = exactly (state_of c.args.self.now) cc in search rules
 
 pub returns-then-message-self : goal.returns-then-message-self
-returns-then-message-self c = let size = exactly (state_of c.args.self) cc in search rules
+returns-then-message-self c = let size = exactly (state_of c.args.self.now) cc in search rules
 
 pub returns : goal.returns
-returns c = let size = exactly (state_of c.args.self) cc in search rules
+returns c = let size = exactly (state_of c.args.self.now) cc in search rules

@@ -1,16 +1,21 @@
 -- `resume::read_record::read_record` meets its contract: each field's answer leads to the case of the definition.
 -- Assumes nothing.
-use Rattle.std.specs.Prelude.{◌≡◌, Bool, true, false, List, ℕ, ◌+◌, ltb, length, take, drop, Result, Ok, Err}
+use Rattle.std.specs.Prelude.{◌≡◌, Bool, true, false, List, ℕ, ◌+◌, ◌-◌, ◌≤◌, ltb, length, take, drop, Result, Ok, Err}
 use Rattle.std.proofs.Common.{rules, arith, refl, ap, sym, ◌∙◌, length-drop}
 use Rattle.std.proofs.Math.Seq.{length-take-le}
-use borrow.Author.Tests.{ltb-false}
+use borrow.Author.Tests.{ltb-false, le-ltb}
 use Rattle.pixel.specs.Bytes.{pixel_from, pixels_from}
 use Rattle.pixel.specs.declared.error.Error.{Error}
 use Rattle.pixel.specs.declared.error.Error.TheVariants.{UnexpectedBufferEnd}
+use Rattle.pixel.specs.declared.types.Channels.{Channels}
+use Rattle.pixel.specs.Types.{channels_number, channels_from}
 use Rattle.number.specs.declared.Number.{Number}
+use Rattle.number.specs.Seven.{read_number}
+use Rattle.header.specs.declared.Header.{Header}
+use Rattle.header.specs.Header.{header_of, pixel_count}
 use Rattle.header.proofs.Laws.{header_accepted}
 use Rattle.rules.specs.Step.{Started, not_started}
-use Rattle.rules.specs.Record.{read_record, read_wanted, read_positions, read_slots, after_number}
+use Rattle.rules.specs.Record.{read_record, read_wanted, read_positions, read_slots, after_number, accept_state}
 use Rattle.resume.specs.Asked.{value_of, used_of, next_bytes}
 use Rattle.resume.proofs.Slots.{pixel_taken, pixels_taken}
 use Rattle.resume.proofs.read_record.read_record.Goals as goal
@@ -46,6 +51,34 @@ bytes_then bytes at size part is = go (ltb (length bytes) (at + size)) refl
         let is-part : part ≡ take size (drop at bytes) = cc in
         let room = ltb-false _ _ e in
         (e, rw is-part (length-take-le size (drop at bytes) (simp length-drop (omega arith))), is-part)
+
+-- a record whose fields were read is accepted as the state that they make
+fields_read :
+    (expected : ℕ) (bytes : List ℕ) (header : Header) (channels : Channels) (w at pixel number a b s e : ℕ)
+    → header_of bytes ≡ Ok header
+    → value_of (read_number bytes 14) ≡ Ok w → a ≡ 14 + used_of (read_number bytes 14) → channels_from w ≡ Ok channels
+    → value_of (read_number bytes a) ≡ Ok at → b ≡ a + used_of (read_number bytes a)
+    → value_of (read_number bytes b) ≡ Ok pixel → s ≡ b + used_of (read_number bytes b)
+    → ltb (length bytes) (s + 4) ≡ false → ltb (length bytes) (s + 260) ≡ false
+    → value_of (read_number bytes (s + 260)) ≡ Ok number → e ≡ s + 260 + used_of (read_number bytes (s + 260))
+    → accept_state expected
+    (record {
+      header = header;
+      wanted = channels_number channels;
+      place = record {
+        at = at;
+        pixel = pixel;
+        current = pixel_from 4 (drop s bytes);
+        slots = pixels_from 64 4 (drop (s + 4) bytes);
+      };
+      left = pixel_count header - pixel;
+      number = number;
+    })
+    e (length bytes)
+    ≡ read_record expected bytes
+unfolding read_record read_wanted read_positions read_slots
+fields_read expected bytes header channels w at pixel number a b s e opened is-w is-a few is-at is-b is-pixel is-s four room is-number is-e =
+    search (rules, number_then)
 
 pub invariant_of-record : goal.invariant_of-record
 invariant_of-record c =
@@ -92,8 +125,28 @@ pixel_of-requires c = omega (arith, (bytes_then _ _ _ _ c.in_ok-current.ensures.
 pub slots_of-requires : goal.slots_of-requires
 slots_of-requires c = omega (arith, (bytes_then _ _ _ _ c.in_ok-slots.ensures.value).1)
 
+pub returns-in_err-accept : goal.returns-in_err-accept
+returns-in_err-accept c =
+    let current = bytes_then _ _ _ _ c.in_ok-current.ensures.value in
+    let slots = bytes_then _ _ _ _ c.in_ok-slots.ensures.value in
+    let bytes = c.args.bytes.now in
+    let start = c.number-3.new.self.at in
+    let first : pixel_from 4 c.in_ok-current.current.now ≡ pixel_from 4 (drop start bytes) =
+    ap (pixel_from 4) current.2 ∙ pixel_taken 0 _ ∙ cc in
+    let others : pixels_from 64 4 c.in_ok-slots.slots.now ≡ pixels_from 64 4 (drop (start + 4) bytes) =
+    ap (pixels_from 64 4) slots.2 ∙ pixels_taken 64 _ ∙ cc (c.in_ok-current.ensures.next) in
+    let left = rw c.n_pixels.ensures at c.saturating_sub.ensures in
+    let same : length c.bytes.new.self.bytes.now ≡ length bytes = cc in
+    let room : start + 260 ≤ length bytes = omega (arith, ltb-false _ _ slots.0, c.in_ok-current.ensures.next, same) in
+    let there : c.bytes-2.new.self.at ≡ start + 260 = omega (arith, c.in_ok-current.ensures.next, c.in_ok-slots.ensures.next) in
+    let read =
+    fields_read c.args.expected bytes c.in_ok-header.header c.in_ok-wanted.wanted c.in_ok-number.field-0 c.in_ok-at.at c.in_ok-pixel.pixel
+    c.in_ok-number-2.number c.number.new.self.at c.number-2.new.self.at start c.number-4.new.self.at
+    (sym c.decode.ensures ∙ c.in_ok-header.was) (search rules) (search rules) (sym c.try_from.ensures ∙ c.in_ok-wanted.was)
+    (search rules) (search rules) (search rules) (search rules) (search rules) (le-ltb _ _ room) (search rules) (search rules) in
+    search (rules, read)
+
 pub returns : goal.returns
-unfolding read_record read_wanted read_positions read_slots
 returns c =
     let current = bytes_then _ _ _ _ c.in_ok-current.ensures.value in
     let slots = bytes_then _ _ _ _ c.in_ok-slots.ensures.value in
@@ -104,4 +157,12 @@ returns c =
     let others : pixels_from 64 4 c.in_ok-slots.slots.now ≡ pixels_from 64 4 (drop (start + 4) bytes) =
     ap (pixels_from 64 4) slots.2 ∙ pixels_taken 64 _ ∙ cc (c.in_ok-current.ensures.next) in
     let left = rw c.n_pixels.ensures at c.saturating_sub.ensures in
-    search (rules, number_then)
+    let same : length c.bytes.new.self.bytes.now ≡ length bytes = cc in
+    let room : start + 260 ≤ length bytes = omega (arith, ltb-false _ _ slots.0, c.in_ok-current.ensures.next, same) in
+    let there : c.bytes-2.new.self.at ≡ start + 260 = omega (arith, c.in_ok-current.ensures.next, c.in_ok-slots.ensures.next) in
+    let read =
+    fields_read c.args.expected bytes c.in_ok-header.header c.in_ok-wanted.wanted c.in_ok-number.field-0 c.in_ok-at.at c.in_ok-pixel.pixel
+    c.in_ok-number-2.number c.number.new.self.at c.number-2.new.self.at start c.number-4.new.self.at
+    (sym c.decode.ensures ∙ c.in_ok-header.was) (search rules) (search rules) (sym c.try_from.ensures ∙ c.in_ok-wanted.was)
+    (search rules) (search rules) (search rules) (search rules) (search rules) (le-ltb _ _ room) (search rules) (search rules) in
+    search (rules, read)
